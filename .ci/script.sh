@@ -130,6 +130,56 @@ status=$?
 [ $status -eq 7 ] || fail "another maker's file: status $status, not 7"
 cmp -s other.root kept.root || fail "another maker's file: it has changed"
 
+# A tree that another writer made by the rules is kept beside what is put, also where the run is cut off; and it is deleted. One whose
+# header counts an entry more than its branches have isn't such a tree.
+python3 "$top/bench/tree_file.py" beside.root wide 3 2 || fail "a file with a tree isn't made"
+cp beside.root kept.root
+printf '%s\n' "put s $value \"hi\"}" "put G $value \"hi\"}" "delete G;2" "ls" >beside
+"$program" run beside.root <beside >said 2>told
+check "a put beside a tree" $? 0 'ok put s;1
+no 5 NameIsTree
+no 4 NoSuchCycle
+ok ls 2
+G;1 TTree 3 0
+s;1 TObjString' ""
+rows='ok scan G 3
+0 [0, 1]
+1 [2, 3]
+2 [4, 5]'
+"$program" scan beside.root G </dev/null >said 2>told
+check "the tree beside a put" $? 0 "$rows" ""
+python3 - <<'P'
+with open("beside.root", "r+b") as file:
+    file.seek(12)
+    file.write((2000000000).to_bytes(4, "big"))
+P
+"$program" recover beside.root </dev/null >said 2>told
+check "recover of a file with a tree" $? 0 'G;1 TTree
+s;1 TObjString' ""
+"$program" scan beside.root G </dev/null >said 2>told
+check "the tree that was recovered" $? 0 "$rows" ""
+printf '%s\n' "delete G;1" "ls" "get G" >beside
+"$program" run beside.root <beside >said 2>told
+check "a delete of a tree" $? 0 'ok delete G;1
+ok ls 1
+s;1 TObjString
+no 3 NoSuchName' ""
+"$program" scan beside.root G </dev/null >said 2>told
+check "scan of a tree that was deleted" $? 0 "no 3 NoSuchName" ""
+place=$(python3 - <<'P'
+data = bytearray(open("kept.root", "rb").read())
+name = data.index(b"\x05TTree\x01G")
+entries = data.index((3).to_bytes(8, "big"), name)
+data[entries + 7] = 4
+open("bad.root", "wb").write(data)
+print(name - 26)
+P
+)
+cp bad.root kept.root
+"$program" run bad.root <beside >said 2>told
+check "a tree that counts wrong" $? 7 "" "rootio: read only at $place: BadTree"
+cmp -s bad.root kept.root || fail "a tree that counts wrong: the file has changed"
+
 # Near the limit (sparse files of 2 GB) a class list that declares no class counts in what a close may need: 132 bytes for two
 # records that are kept, under this name. The third record is of a basket of no tree, and is neither read nor kept. What is
 # closed there has no room for another close. A program that reads the basket whole has no memory for it.

@@ -3,6 +3,7 @@ pub mod LaidLaws
 pub mod PlaceLaws
 pub mod OpenLaws
 pub mod PutLaws
+pub mod CutAll
 pub mod CutLaws
 pub mod HeldLaws
 pub mod JoinedLaws

@@ -1,3 +1,4 @@
+pub mod Cut
 pub mod Entries
 pub mod Laid
 pub mod Laws

@@ -5,7 +5,8 @@
 //! in its place, with no copy. A [`Basket`] is filled entry by entry, tells when it is to be written, and gives its record.
 //! What is written is read as the same entries ([`basket_record_is_read`]).
 //! `specs/Stored.antt` has the rules of the key and the head, `specs/Entries.antt` those of the offsets and where each
-//! entry stands, and `specs/Record.antt` the record as it is written. Its tests stand in `rio_rows`.
+//! entry stands, `specs/Record.antt` the record as it is written, and `specs/Cut.antt` the rule by which entries are divided into
+//! baskets as they come. Its tests stand in `rio_rows`.
 #![tactic(auto)]
 
 mod entries;

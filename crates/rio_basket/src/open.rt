@@ -75,6 +75,13 @@ impl Basket {
         self.ends.as_slice().len()
     }
 
+    /// How many bytes the entries have together.
+    pub fn entries_length(&self) -> usize
+        ensures { result ≡ entries_length self.now.entries }
+    {
+        self.bytes.len()
+    }
+
     /// The entry at `k`, counted from 0.
     pub fn entry(&self, k: usize) -> Option<&[u8]>
         ensures { option_copied result ≡ slice_get self.now.entries k }

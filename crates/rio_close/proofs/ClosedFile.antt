@@ -1,6 +1,6 @@
 -- The file that a close leaves: it reads as before, by the walk and by its key list.
-use Rattle.std.proofs.Common.{◌≡◌, ◌↔◌, ◌⊎◌, inl, inr, ℕ, ◌+◌, ◌^◌, ◌<◌, ◌≤◌, Bool, true, false, cond, ltb, nat_lt, not, List, [], ◌∷◌, ◌++◌, length, length-append, map, take, drop, Option, Some, None, Result, Ok, Err, refl, sym, ap, subst, ◌∙◌, arith}
-use Rattle.std.proofs.{lemmas.Bool.{le-ltb}, lemmas.List.Elements.{All-cons, All-nil}, lemmas.Option.{same_Some, slice_get_within}}
+use Rattle.std.proofs.Common.{◌≡◌, ◌↔◌, ◌⊎◌, inl, inr, ℕ, ◌+◌, ◌^◌, ◌<◌, ◌≤◌, Bool, false, cond, ltb, not, List, [], ◌∷◌, ◌++◌, length, codes, length-append, map, take, drop, Option, Some, None, Result, Ok, Err, refl, sym, ap, subst, ◌∙◌, arith}
+use Rattle.std.proofs.{lemmas.Bool.{le-ltb}, lemmas.List.Elements.{All-cons, All-nil}, lemmas.Option.{slice_get_within}}
 use Rattle.std.proofs.lemmas.List.Sums.{sum_by-cons}
 use Rattle.std.specs.{List.{All, Contains, flat_map, slice_get}, Int.{w32, cast_unsigned}}
 use Rattle.byteorder.specs.{Endian.{big_bytes, big_number}, Numbers.{length-bytes_high_first}}
@@ -24,14 +24,14 @@ use Rattle.rio_chain.proofs.PutChain.{map_end, map_with}
 use Rattle.rio_machine.specs.State.{State}
 use Rattle.rio_chain.specs.Record.{new_key}
 use Rattle.rio_state.specs.{Closing.{item_heads}, DirectoryKeys.{AreKeysOf}}
-use Rattle.rio_state.specs.KeyedRecords.{KeyedRecord, info_key, is_info_key, is_internal, later_info, keyed_records, top_keys, is_top_key, is_tree_key, is_tree_record}
+use Rattle.rio_state.specs.KeyedRecords.{KeyedRecord, info_key, keyed_records, top_keys, is_top_key, is_tree_key, is_tree_record}
 use Rattle.rio_state.specs.{Left.{info_head}, Reads.{AreRecordsOf, IsFreeRecordAt, ReadsAsState, ReadsClosed, info_place}, OneMore.{keyed_bytes}}
-use Rattle.rio_state.proofs.{KeyRecords.{ObjectOf, TreeOf, key_record}, Members.{In, contains_in, filter_in}}
+use Rattle.rio_state.proofs.{KeyRecords.{ObjectOf, TreeOf, key_record}, Members.{In, contains_in, filter_in}, Places.{info_among}}
 use Rattle.rio_close.specs.{Fields.{FieldsThenEnd, IsOutsideFields, WritesFields}, Leaving.{IsClosedWith, IsKeptByte, IsKeptInFirst}}
 use Rattle.rio_close.specs.Written.{AreCloseRecords, OpenFile, dir_field_bytes, free_field_bytes, free_place, info_field_bytes, list_place, own_words, with_both, with_list}
 use Rattle.rio_close.specs.declared.parts.CloseRecords.{CloseRecords}
 use Rattle.rio_close.proofs.FieldsChain.{FirstLink, OtherFields, first_link, other_fields}
-use Rattle.rio_close.proofs.{FirstBytes.{first_internal, first_keyed, info_changes, records_change, tops_change}, LeftImages.{reads_made}}
+use Rattle.rio_close.proofs.{FirstBytes.{first_class, first_keyed, info_changes, records_change, tops_change}, LeftImages.{reads_made}}
 use Rattle.rio_close.proofs.{ListRead.{Writable, all_writable, list_read, writable}, ListedRecords.{Listing, in_records, listed_stand, listed_tops, listing}}
 use Rattle.rio_close.proofs.Numbers.{HasNumber, any_number, number_of_bytes, word_of_number}
 use Rattle.rio_close.proofs.OwnRecords.{own_data, own_info, own_keys, own_link, own_nbytes, own_padding, own_spelled, own_stays, own_whole, own_zeros}
@@ -85,19 +85,6 @@ small_seek file links chain (Some r) among =
     let four : w.whole.head.seek < 2 ^ 32 = subst (λ (b : Bool). w.whole.head.seek < 256 ^ cond b 8 4) small lt in
     subst (λ (h : KeyHead). h.seek < 2 ^ 32) w.key four
 
-info_among : (rs : List KeyedRecord) (r : KeyedRecord) → info_key rs ≡ Some r → In r rs
-info_among [] r e = absurd cc
-info_among (s ∷ rs) r e = by (is_info_key s.head) (info_key rs) refl e (info_among rs r)
-  where
-    chosen : (c : Bool) (t : KeyedRecord) → info_key rs ≡ Some t → cond c (Some s) (Some t) ≡ Some r → (info_key rs ≡ Some r → In r rs) → In r (s ∷ rs)
-    chosen true t is e rest = inl (same_Some s r e)
-    chosen false t is e rest = inr (rest (is ∙ e))
-
-    by : (b : Bool) (o : Option KeyedRecord) → info_key rs ≡ o → cond b (later_info s o) o ≡ Some r → (info_key rs ≡ Some r → In r rs) → In r (s ∷ rs)
-    by false o is e rest = inr (rest (is ∙ e))
-    by true None is e rest = inl (same_Some s r e)
-    by true (Some t) is e rest = chosen (nat_lt t.head.cycle s.head.cycle) t is e rest
-
 info_number : (file : List ℕ) (o : Option KeyHead) → seek_of o < 2 ^ 32 → Has file 37 (info_field_bytes o) → HasNumber 4 file 37 (seek_of o)
 info_number file None lt has = number_of_bytes file 37 0 lt (has_front file 37 (big_bytes 4 0) (big_bytes 4 0) has)
 info_number file (Some h) lt has = number_of_bytes file 37 h.seek lt (has_front file 37 (big_bytes 4 h.seek) (big_bytes 4 (cast_unsigned w32 h.nbytes)) has)
@@ -131,11 +118,12 @@ module _ (f : OpenFile) (r : CloseRecords) (made : AreCloseRecords f r) (file : 
   abbrev pub links_2 : List Link
   links_2 = with_record (free_place f r) r.free.bytes.bytes (with_record (list_place f r) r.list.bytes.bytes links)
 
-  pub records_1 : AreRecordsOf (keyed_records links_1) m
-  records_1 = own_stays list_at f.datime f.name list_contents list_bytes made.list.fits made.list.bytes links m records
+  -- both stand for the state, where each is the chain of a file
+  pub list_stands : (file_1 : List ℕ) → IsChain links_1 file_1 → AreRecordsOf (keyed_records links_1) m
+  list_stands file_1 chain_1 = own_stays list_at f.datime f.name list_contents list_bytes made.list.fits made.list.bytes links file_1 chain_1 m records
 
-  pub records_2 : AreRecordsOf (keyed_records links_2) m
-  records_2 = own_stays free_at f.datime f.name free_contents free_record_bytes made.free.fits made.free.bytes links_1 m records_1
+  pub both_stand : (file_2 : List ℕ) → IsChain links_2 file_2 → AreRecordsOf (keyed_records links_1) m → AreRecordsOf (keyed_records links_2) m
+  both_stand file_2 chain_2 records_1 = own_stays free_at f.datime f.name free_contents free_record_bytes made.free.fits made.free.bytes links_1 file_2 chain_2 m records_1
 
   pub keys_2 : AreKeysOf (keyed_records links_2) f.heads
   keys_2 = own_keys free_at f.datime f.name free_contents free_record_bytes made.free.fits made.free.bytes links_1 f.heads
@@ -162,11 +150,11 @@ module _ (f : OpenFile) (r : CloseRecords) (made : AreCloseRecords f r) (file : 
 
   info_seek : seek_of f.info < 2 ^ 32
   info_seek = subst (λ (o : Option KeyHead). seek_of o < 2 ^ 32) (sym info)
-      (small_seek file links chain (info_key (keyed_records links)) (λ t e. info_among (keyed_records links) t e))
+      (small_seek file links chain (info_key (keyed_records links)) (λ t e. (info_among (keyed_records links) t e).0))
 
   -- ---- and then the fields
 
-  module _ (file_2 last : List ℕ) (chain_2 : IsChain links_2 file_2) (h : FileHead) (s : SmallHead file_2 h) (place end : ℕ) (at : place ≡ h.nbytes_name + 106)
+  module _ (file_2 last : List ℕ) (chain_2 : IsChain links_2 file_2) (records_2 : AreRecordsOf (keyed_records links_2) m) (h : FileHead) (s : SmallHead file_2 h) (place end : ℕ) (at : place ≡ h.nbytes_name + 106)
       (done : FieldsThenEnd r.free_fields.bytes r.info_fields.bytes place r.dir_fields.bytes end file_2 last) (end_is : end ≡ file_end (with_both f r)) where
     abbrev first : FirstLink links file
     first = first_link links file chain
@@ -212,8 +200,8 @@ module _ (f : OpenFile) (r : CloseRecords) (made : AreCloseRecords f r) (file : 
     abbrev own : IsRecord 100 first.bytes
     own = whole_2.links_are.0.1.whole
 
-    internal : is_internal whole_2.links_are.0.1.whole.head ≡ true
-    internal = first_internal file_2 first.bytes own (whole_2.links_are.0.1.first refl)
+    class : whole_2.links_are.0.1.whole.head.class ≡ codes "TFile"
+    class = first_class file_2 first.bytes own (whole_2.links_are.0.1.first refl)
 
     keyed_2 : keyed_records links_2 ≡ keyed_bytes whole_2.links_are.0.1.whole.head first.bytes ∷ keyed_records behind
     keyed_2 = ap keyed_records links_are ∙ first_keyed 100 first.bytes behind own
@@ -224,13 +212,13 @@ module _ (f : OpenFile) (r : CloseRecords) (made : AreCloseRecords f r) (file : 
     records_3 : AreRecordsOf (keyed_records (RecordAt 100 o.new ∷ behind)) m
     records_3 =
         let one = subst (λ (rs : List KeyedRecord). AreRecordsOf rs m) keyed_2 records_2 in
-        subst (λ (rs : List KeyedRecord). AreRecordsOf rs m) (sym keyed_3) (records_change own.head internal first.bytes o.new (keyed_records behind) m one)
+        subst (λ (rs : List KeyedRecord). AreRecordsOf rs m) (sym keyed_3) (records_change own.head class first.bytes o.new (keyed_records behind) m one)
 
     info_3 : info_key (keyed_records (RecordAt 100 o.new ∷ behind)) ≡ info_key (keyed_records links)
-    info_3 = ap info_key keyed_3 ∙ info_changes own.head internal first.bytes o.new (keyed_records behind) ∙ sym (ap info_key keyed_2) ∙ info_2
+    info_3 = ap info_key keyed_3 ∙ info_changes own.head class first.bytes o.new (keyed_records behind) ∙ sym (ap info_key keyed_2) ∙ info_2
 
     tops_3 : top_keys (keyed_records (RecordAt 100 o.new ∷ behind)) ≡ top_keys (keyed_records links_2)
-    tops_3 = ap top_keys keyed_3 ∙ tops_change own.head internal first.bytes o.new (keyed_records behind) ∙ sym (ap top_keys keyed_2)
+    tops_3 = ap top_keys keyed_3 ∙ tops_change own.head class first.bytes o.new (keyed_records behind) ∙ sym (ap top_keys keyed_2)
 
     keys_3 : AreKeysOf (keyed_records (RecordAt 100 o.new ∷ behind)) f.heads
     keys_3 = record { ordered = keys_2.ordered; each = subst (λ (ts : List KeyedRecord). (head : KeyHead) → Contains f.heads head ↔ Contains (item_heads ts) head) (sym tops_3) keys_2.each }

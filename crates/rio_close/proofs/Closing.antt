@@ -16,7 +16,7 @@ use Rattle.rio_close.specs.Fields.{FieldsThenEnd, IsFieldsThenEnd}
 use Rattle.rio_close.specs.Leaving.{DirectoryInFront, HoldsClosed, HoldsClosedWith, HoldsOpen, IsClosedWith, IsKeptByte, StaysAs}
 use Rattle.rio_close.specs.Written.{AreCloseRecords, OpenFile, free_place, info_field_bytes, list_place, record_size, with_both, with_list}
 use Rattle.rio_close.specs.declared.parts.CloseRecords.{CloseRecords}
-use Rattle.rio_close.proofs.{ClosedFile.{last_closed, last_reads, last_written, records_1, records_2}, OwnRecords.{own_whole}}
+use Rattle.rio_close.proofs.{ClosedFile.{both_stand, last_closed, last_reads, last_written, list_stands}, OwnRecords.{own_whole}}
 use Rattle.rio_close.proofs.{LeftImages.{keeps_head, left_fields, left_open, open_head}, FieldsChain.{first_link, other_fields}}
 use Rattle.rio_close.proofs.{Numbers.{bytes_keep, number_keeps, within_keeps, word_of_number}, SmallHead.{SmallHead}}
 
@@ -131,18 +131,18 @@ module _ (v0 : View) (f : OpenFile) (r : CloseRecords) (m : State) (made : AreCl
   small : SmallHead held.file held.head.head
   small = open_head held.links held.file f.nbytes_name held.chain.chain held.head
 
-  records_with_list : AreRecordsOf (keyed_records links_with_list) m
-  records_with_list = records_1 f r made held.file held.links m held.chain.chain held.chain.same held.records held.keys held.info
+  records_with_list : (file : List ℕ) → IsChain links_with_list file → AreRecordsOf (keyed_records links_with_list) m
+  records_with_list = list_stands f r made held.file held.links m held.chain.chain held.chain.same held.records held.keys held.info
 
-  records_with_both : AreRecordsOf (keyed_records links_with_both) m
-  records_with_both = records_2 f r made held.file held.links m held.chain.chain held.chain.same held.records held.keys held.info
+  records_with_both : AreRecordsOf (keyed_records links_with_list) m → (file : List ℕ) → IsChain links_with_both file → AreRecordsOf (keyed_records links_with_both) m
+  records_with_both records file chain = both_stand f r made held.file held.links m held.chain.chain held.chain.same held.records held.keys held.info file chain records
 
   -- one record is put
-  either : (v : View) (from : List ℕ) (a b : List Link) → v.said ≡ v0.said → SmallHead from held.head.head → AreRecordsOf (keyed_records a) m → AreRecordsOf (keyed_records b) m → (i s : List ℕ) → IsEither v from a b i s → StaysAs v0 m i s
+  either : (v : View) (from : List ℕ) (a b : List Link) → v.said ≡ v0.said → SmallHead from held.head.head → AreRecordsOf (keyed_records a) m → ((file : List ℕ) → IsChain b file → AreRecordsOf (keyed_records b) m) → (i s : List ℕ) → IsEither v from a b i s → StaysAs v0 m i s
   either v from a b same head ra rb i s e = record {
     left = ⊎_elim
         (λ chain. left_open from i held.head.head a m head held.head.end (keeps_head from i e.front) chain ra)
-        (λ chain. left_open from i held.head.head b m head held.head.end (keeps_head from i e.front) chain rb)
+        (λ chain. left_open from i held.head.head b m head held.head.end (keeps_head from i e.front) chain (rb i chain))
         e.links;
     text = λ all told. e.text all (same ∙ told);
   }
@@ -155,6 +155,7 @@ module _ (v0 : View) (f : OpenFile) (r : CloseRecords) (m : State) (made : AreCl
     pub holds : v.holds ≡ Some file
     pub chain : HasChain links segments file
     pub front : KeepsFront held.file file
+    pub records : AreRecordsOf (keyed_records links) m
 
   -- what a put tells
   abbrev pub Puts : View → List ℕ → List Link → List Segment → Type 0
@@ -167,32 +168,38 @@ module _ (v0 : View) (f : OpenFile) (r : CloseRecords) (m : State) (made : AreCl
 
   pub list_reached : (v1 : View) (seek : ℕ) (segments : List Segment) → seek ≡ list_place f r → v1.said ≡ v0.said → Elapses v0 v1 (IsEither v0 held.file held.links (with_record seek r.list.bytes.bytes held.links))
       → Puts v1 held.file (with_record seek r.list.bytes.bytes held.links) segments → Reached v1 links_with_list segments
-  list_reached v1 seek segments is said time put = record {
-    time = list_time v1 seek is time;
-    said = said;
-    file = put.0;
-    holds = put.1;
-    chain = subst (λ (p : ℕ). HasChain (with_record p r.list.bytes.bytes held.links) segments put.0) is put.2;
-    front = put.3;
-  }
+  list_reached v1 seek segments is said time put =
+      let chain = subst (λ (p : ℕ). HasChain (with_record p r.list.bytes.bytes held.links) segments put.0) is put.2 in
+      record {
+        time = list_time v1 seek is time;
+        said = said;
+        file = put.0;
+        holds = put.1;
+        chain = chain;
+        front = put.3;
+        records = records_with_list put.0 chain.chain;
+      }
 
   module _ (v1 : View) (segments_1 : List Segment) (one : Reached v1 links_with_list segments_1) where
     pub free_time : (v2 : View) (seek : ℕ) → seek ≡ free_place f r → Elapses v1 v2 (IsEither v1 one.file links_with_list (with_record seek r.free.bytes.bytes links_with_list)) → Elapses v0 v2 (StaysAs v0 m)
     free_time v2 seek is time =
         let there = subst (λ (p : ℕ). Elapses v1 v2 (IsEither v1 one.file links_with_list (with_record p r.free.bytes.bytes links_with_list))) is time in
         elapses_join (IsEither v1 one.file links_with_list links_with_both) one.time there
-        (either v1 one.file links_with_list links_with_both one.said (head_stays held.file one.file held.head.head one.front small) records_with_list records_with_both)
+        (either v1 one.file links_with_list links_with_both one.said (head_stays held.file one.file held.head.head one.front small) one.records (records_with_both one.records))
 
     pub free_reached : (v2 : View) (seek : ℕ) (segments : List Segment) → seek ≡ free_place f r → v2.said ≡ v1.said → Elapses v1 v2 (IsEither v1 one.file links_with_list (with_record seek r.free.bytes.bytes links_with_list))
         → Puts v2 one.file (with_record seek r.free.bytes.bytes links_with_list) segments → Reached v2 links_with_both segments
-    free_reached v2 seek segments is said time put = record {
-      time = free_time v2 seek is time;
-      said = said ∙ one.said;
-      file = put.0;
-      holds = put.1;
-      chain = subst (λ (p : ℕ). HasChain (with_record p r.free.bytes.bytes links_with_list) segments put.0) is put.2;
-      front = λ i x low was. put.3 i x low (one.front i x low was);
-    }
+    free_reached v2 seek segments is said time put =
+        let chain = subst (λ (p : ℕ). HasChain (with_record p r.free.bytes.bytes links_with_list) segments put.0) is put.2 in
+        record {
+          time = free_time v2 seek is time;
+          said = said ∙ one.said;
+          file = put.0;
+          holds = put.1;
+          chain = chain;
+          front = λ i x low was. put.3 i x low (one.front i x low was);
+          records = records_with_both one.records put.0 chain.chain;
+        }
 
   module _ (v2 : View) (segments_2 : List Segment) (two : Reached v2 links_with_both segments_2) (place end : ℕ) (at : place ≡ r.nbytes_name + 106) (end_is : end ≡ file_end (with_both f r)) where
     small_2 : SmallHead two.file held.head.head
@@ -205,10 +212,10 @@ module _ (v0 : View) (f : OpenFile) (r : CloseRecords) (m : State) (made : AreCl
     Done last = FieldsThenEnd r.free_fields.bytes r.info_fields.bytes place r.dir_fields.bytes end two.file last
 
     reads : (last : List ℕ) → Done last → ReadsAsState last m
-    reads last done = last_reads f r made held.file held.links m held.chain.chain held.chain.same held.records held.keys held.info two.file last two.chain.chain held.head.head small_2 place end at_head done end_is
+    reads last done = last_reads f r made held.file held.links m held.chain.chain held.chain.same held.records held.keys held.info two.file last two.chain.chain two.records held.head.head small_2 place end at_head done end_is
 
     closed : (last : List ℕ) → Done last → ReadsClosed last m
-    closed last done = last_closed f r made held.file held.links m held.chain.chain held.chain.same held.records held.keys held.info two.file last two.chain.chain held.head.head small_2 place end at_head done end_is
+    closed last done = last_closed f r made held.file held.links m held.chain.chain held.chain.same held.records held.keys held.info two.file last two.chain.chain two.records held.head.head small_2 place end at_head done end_is
 
     low_byte : (i : ℕ) → IsKeptByte i → i < 100
     low_byte i (inl low) = omega (arith, low)
@@ -217,7 +224,7 @@ module _ (v0 : View) (f : OpenFile) (r : CloseRecords) (m : State) (made : AreCl
 
     written : (last : List ℕ) → Done last → IsClosedWith f held.links r held.file last
     written last done =
-        let w = last_written f r made held.file held.links m held.chain.chain held.chain.same held.records held.keys held.info two.file last two.chain.chain held.head.head small_2 place end at_head done end_is held.head.name in
+        let w = last_written f r made held.file held.links m held.chain.chain held.chain.same held.records held.keys held.info two.file last two.chain.chain two.records held.head.head small_2 place end at_head done end_is held.head.name in
         record {
           header = λ i x kept was. w.header i x kept (two.front i x (low_byte i kept) was);
           end_there = w.end_there;
@@ -238,7 +245,7 @@ module _ (v0 : View) (f : OpenFile) (r : CloseRecords) (m : State) (made : AreCl
     fields_stay : (i s : List ℕ) → IsFieldsThenEnd v2 r.free_fields.bytes r.info_fields.bytes place r.dir_fields.bytes end two.file i s → StaysAs v0 m i s
     fields_stay i s e = record {
       left = ⊎_elim
-          (λ half. left_fields two.file i held.head.head links_with_both m held.head.head.nbytes_name place small_2 held.head.end refl at_head half two.chain.chain records_with_both)
+          (λ half. left_fields two.file i held.head.head links_with_both m held.head.head.nbytes_name place small_2 held.head.end refl at_head half two.chain.chain two.records)
           (λ done. record { reads = reads i done; closed = λ word root has ne. closed i done })
           e.image_is;
       text = λ all told. e.text all (two.said ∙ told);

@@ -12,7 +12,7 @@ use Rattle.rio_machine.specs.State.{State, empty_state}
 use Rattle.rio_state.specs.{KeyedRecords.{KeyedRecord, keyed_records}, Left.{HasOpenHead, IsLeftAs, open_end}, Reads.{AreRecordsOf, ReadsAsMade, ReadsAsState}}
 use Rattle.rio_state.specs.OneMore.{keyed_bytes}
 use Rattle.rio_close.specs.Fields.{IsOutsideFields, KeepsAllButFields}
-use Rattle.rio_close.proofs.{FieldsChain.{first_link, other_fields}, FirstBytes.{first_internal, first_keyed, records_change}}
+use Rattle.rio_close.proofs.{FieldsChain.{first_link, other_fields}, FirstBytes.{first_class, first_keyed, records_change}}
 use Rattle.rio_close.proofs.Numbers.{HasNumber, any_number, number_keeps, word_of_number}
 use Rattle.rio_close.proofs.SmallHead.{IsFixed, SmallHead, head_changes, small_head, small_read}
 
@@ -70,10 +70,10 @@ left_fields file image h links m n place s is name at keeps chain records =
     let word : HasWord file 28 n = subst (HasWord file 28) name (word_of_number file 28 h.nbytes_name s.nbytes_name) in
     let o = other_fields file image f.bytes f.others whole n place word at (chain_keeps place file image keeps) in
     let own = whole.links_are.0.1.whole in
-    let internal = first_internal file f.bytes own f.first in
+    let class = first_class file f.bytes own f.first in
     let before : AreRecordsOf (keyed_records (RecordAt 100 f.bytes ∷ f.others)) m = subst (λ (l : List Link). AreRecordsOf (keyed_records l) m) f.links_are records in
     let one = subst (λ (rs : List KeyedRecord). AreRecordsOf rs m) (first_keyed 100 f.bytes f.others own) before in
-    let two = records_change own.head internal f.bytes o.new (keyed_records f.others) m one in
+    let two = records_change own.head class f.bytes o.new (keyed_records f.others) m one in
     let after = subst (λ (rs : List KeyedRecord). AreRecordsOf rs m) (sym (first_keyed 100 o.new f.others o.whole ∙ ap (λ (k : KeyHead). keyed_bytes k o.new ∷ keyed_records f.others) o.head_is)) two in
     left_open file image h (RecordAt 100 o.new ∷ f.others) m s is (λ i x fixed was. keeps i x (outside i fixed) was) o.chain after
   where

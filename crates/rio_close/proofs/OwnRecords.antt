@@ -5,13 +5,13 @@ use Rattle.rio_num.specs.{Plain.{IsSpelledIn}, Room.{is_padding}}
 use Rattle.rio_num.proofs.Puts.{zeros_pad}
 use Rattle.rio_key.specs.{Key.{SpellsKey}, declared.head.KeyHead.{KeyHead}}
 use Rattle.rio_key.proofs.KeyRecord.{unsigned_is}
-use Rattle.rio_chain.specs.{Changes.{with_record}, Segments.{IsRecord, Link, RecordAt}}
+use Rattle.rio_chain.specs.{Changes.{with_record}, Segments.{IsChain, IsRecord, Link, RecordAt}}
 use Rattle.rio_machine.specs.State.{State}
 use Rattle.rio_chain.specs.{NewRecords.{IsNewRecord}, Record.{FitsWords, key_size, new_key, record_bytes}, declared.key_words.KeyWords.{KeyWords}}
 use Rattle.rio_chain.proofs.Records.{are_new_records}
 use Rattle.rio_state.specs.{DirectoryKeys.{AreKeysOf}, KeyedRecords.{KeyedRecord, info_key, is_internal, keyed_records, record_in_link}}
 use Rattle.rio_state.specs.{Reads.{AreRecordsOf}, OneMore.{KeyIsRead, keyed_bytes, HasOneMoreIn}}
-use Rattle.rio_state.proofs.{MoreRecords.{keyed_link, record_more}, Stays.{info_same, internal_stays, keys_stay, not_info}}
+use Rattle.rio_state.proofs.{MoreRecords.{keyed_link, record_more}, Places.{places_differ}, Stays.{info_same, internal_stays, keys_stay, not_info}}
 use Rattle.rio_close.specs.Written.{own_words}
 
 module _ (place datime : ℕ) (name contents bytes : List ℕ) (fits : FitsWords (own_words place datime name) (length contents)) (is : bytes ≡ record_bytes (own_words place datime name) contents) where
@@ -75,8 +75,8 @@ module _ (place datime : ℕ) (name contents bytes : List ℕ) (fits : FitsWords
     internal : is_internal (new_key words (length contents)) ≡ true
     internal = refl
 
-    pub own_stays : (m : State) → AreRecordsOf (keyed_records links) m → AreRecordsOf (keyed_records (with_record place bytes links)) m
-    own_stays m stand = internal_stays old after own m more internal stand
+    pub own_stays : (file : List ℕ) → IsChain (with_record place bytes links) file → (m : State) → AreRecordsOf (keyed_records links) m → AreRecordsOf (keyed_records (with_record place bytes links)) m
+    own_stays file chain m stand = internal_stays old after own m more internal (places_differ file (with_record place bytes links) old own chain more) stand
 
     pub own_info : info_key (keyed_records (with_record place bytes links)) ≡ info_key (keyed_records links)
     own_info = info_same old after own more (not_info (new_key words (length contents)) internal)

@@ -49,7 +49,7 @@ IsKeptInFirst nbytes_name i = (i < nbytes_name + 6) ⊎ (nbytes_name + 30 ≤ i)
 
 -- A file that is closed with these records: the fields of header and directory record are theirs, all other bytes of header and first
 -- record are as before, and behind it stand the records of before, the key list and the free record, and none else. END, which the
--- header says, is where the free record ends. What is listed of it are the keys of its objects.
+-- header says, is where the free record ends. What is listed of it are the keys of its objects and trees.
 pub record IsClosedWith (f : OpenFile) (links : List Link) (records : CloseRecords) (old file : List ℕ) : Type 0 where
   pub header : (i x : ℕ) → IsKeptByte i → slice_get old i ≡ Some x → slice_get file i ≡ Some x
   pub end_there : Has file 12 (big_bytes 4 (file_end (with_both f records)))

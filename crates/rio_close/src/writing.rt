@@ -127,7 +127,8 @@ fn put_and_finish<H: Host>(
 /// failed.
 ///
 /// The records are those that `close_records` made for this chain. The record of the directory, at
-/// 100 and fNbytesName, stands in front of the end of the file.
+/// 100 and fNbytesName, stands in front of the end of the file. Rows of trees that are pending were
+/// saved before.
 pub fn write_close<H: Host>(
     host: &mut H,
     chain: &mut Chain,

@@ -3,7 +3,7 @@ use Rattle.std.proofs.Common.{◌≡◌, ℕ, zero, suc, ◌+◌, List, [], ◌�
 use Rattle.std.proofs.{lemmas.Slice.Eq.{bytes_eq-Decides}, lemmas.Bool.{and_from, and_parts}}
 use Rattle.std.specs.{List.{list_all}, Option.{option_map_or}, Prelude.{if◌then◌else◌, slice_get}, Str.{bytes_eq, Lines.{lines}}}
 use Rattle.rio_num.specs.{At.{At}, Reading.{◌>>=◌}}
-use Rattle.rio_token.specs.{declared.fault.TextFault.TheVariants.{BadText, NoMemory}, declared.token.Token.{Token, TheVariants.{Word}}, Marks.{semicolon}}
+use Rattle.rio_token.specs.{declared.fault.TextFault.TheVariants.{BadText, NoMemory}, Marks.{semicolon}}
 use Rattle.rio_token.specs.Reading.{Read, bad_at, end_at, item_at, mark_at, next_word, num_at}
 use Rattle.rio_token.specs.Tokens.{behind, standing_in}
 use Rattle.rio_model.specs.{ClassGrammar.{class_at}, ValueGrammar.{bracket_limit, enclosed_at, row_at, value_in_text}}

@@ -4,7 +4,7 @@ use Rattle.std.proofs.{Math.Seq.{take-length}, lemmas.Bool.Decides.{nat_tests}, 
 use Rattle.std.specs.{List.{onto_first, position_or_len, slice_split}, Prelude.{◌==◌, if◌then◌else◌, nat_lt, not, position}}
 use Rattle.std.specs.Str.Lines.{lines, lines_of_parts, strip_carriage_return}
 use Rattle.rio_machine.specs.declared.command.Command.{Command}
-use Rattle.rio_step.specs.Script.{is_command_line}
+use Rattle.rio_step.specs.Script.{commands_from, is_command_line, line_command}
 use Rattle.rio_cmd.specs.Built.{built_from, built_line}
 
 abbrev ends : ℕ → Bool
@@ -63,18 +63,30 @@ rest_whole n bytes = ap (λ m. take m (drop n bytes)) (sym (length-drop n bytes)
 
 -- ---- the commands of lines, one line after the other
 
-pub command_read : (commands all : List Command) (number : ℕ) (line : List ℕ) (later : List (List ℕ)) → is_command_line line ≡ true
-    → commands ++ built_from number (line ∷ later) ≡ all → (commands ++ built_line number line ∷ []) ++ built_from (number + 1) later ≡ all
-unfolding built_from
-command_read commands all number line later is e =
-    append_assoc commands (built_line number line ∷ []) (built_from (number + 1) later) ∙ ap (λ b. commands ++ (if b then built_line number line ∷ built_from (number + 1) later else built_from (number + 1) later)) (sym is) ∙ e
+-- each line that is a command gives one, and the others give none
+pub record GiveCommands (one : ℕ → List ℕ → Command) (from : ℕ → List (List ℕ) → List Command) : Type 0 where
+  pub none : (number : ℕ) → from number [] ≡ []
+  pub next : (number : ℕ) (line : List ℕ) (later : List (List ℕ)) → from number (line ∷ later)
+      ≡ (if is_command_line line then one number line ∷ from (number + 1) later else from (number + 1) later)
 
-pub line_passed : (commands all : List Command) (number : ℕ) (line : List ℕ) (later : List (List ℕ)) → is_command_line line ≡ false
-    → commands ++ built_from number (line ∷ later) ≡ all → commands ++ built_from (number + 1) later ≡ all
+pub built_lines : GiveCommands built_line built_from
 unfolding built_from
-line_passed commands all number line later is e =
-    ap (λ b. commands ++ (if b then built_line number line ∷ built_from (number + 1) later else built_from (number + 1) later)) (sym is) ∙ e
+built_lines = record { none = λ number. refl; next = λ number line later. refl }
 
-pub no_lines_left : (commands all : List Command) (number : ℕ) (bytes : List ℕ) → bytes ≡ [] → commands ++ built_from number (lines bytes) ≡ all → commands ≡ all
-unfolding built_from
-no_lines_left commands all number bytes empty e = sym (append-nil commands) ∙ ap (λ left. commands ++ built_from number (lines left)) (sym empty) ∙ e
+pub all_lines : GiveCommands line_command commands_from
+unfolding commands_from
+all_lines = record { none = λ number. refl; next = λ number line later. refl }
+
+module _ (one : ℕ → List ℕ → Command) (from : ℕ → List (List ℕ) → List Command) (give : GiveCommands one from) (commands all : List Command) (number : ℕ) where
+  pub command_read : (line : List ℕ) (later : List (List ℕ)) → is_command_line line ≡ true
+      → commands ++ from number (line ∷ later) ≡ all → (commands ++ one number line ∷ []) ++ from (number + 1) later ≡ all
+  command_read line later is e =
+      append_assoc commands (one number line ∷ []) (from (number + 1) later) ∙ ap (λ (l : List Command). commands ++ l) (sym (rw is at (give.next number line later))) ∙ e
+
+  pub line_passed : (line : List ℕ) (later : List (List ℕ)) → is_command_line line ≡ false
+      → commands ++ from number (line ∷ later) ≡ all → commands ++ from (number + 1) later ≡ all
+  line_passed line later is e = ap (λ (l : List Command). commands ++ l) (sym (rw is at (give.next number line later))) ∙ e
+
+  pub no_lines_left : (bytes : List ℕ) → bytes ≡ [] → commands ++ from number (lines bytes) ≡ all → commands ≡ all
+  no_lines_left bytes empty e =
+      sym (append-nil commands) ∙ ap (λ (l : List Command). commands ++ l) (sym (give.none number)) ∙ ap (λ (left : List ℕ). commands ++ from number (lines left)) (sym empty) ∙ e

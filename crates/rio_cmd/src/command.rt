@@ -35,7 +35,7 @@ pub(crate) fn read_command(alloc: Global, tokens: &mut Tokens) -> Result<Command
 }
 
 // Whether this word comes next.
-fn is_keyword_next(tokens: &Tokens, keyword: &[u8]) -> bool
+pub(crate) fn is_keyword_next(tokens: &Tokens, keyword: &[u8]) -> bool
     ensures { result ≡ comes_next keyword.now tokens.now }
 {
     match tokens.peek_word() {
@@ -45,7 +45,7 @@ fn is_keyword_next(tokens: &Tokens, keyword: &[u8]) -> bool
 }
 
 // Passes over this word, if it comes next.
-fn take_keyword(tokens: &mut Tokens, keyword: &[u8]) -> bool
+pub(crate) fn take_keyword(tokens: &mut Tokens, keyword: &[u8]) -> bool
     ensures value { result ≡ comes_next keyword.now tokens.old }
     ensures state { tokens.new ≡ (if result then behind tokens.old else tokens.old) }
 {
@@ -57,14 +57,14 @@ fn take_keyword(tokens: &mut Tokens, keyword: &[u8]) -> bool
     }
 }
 
-fn read_class(alloc: Global, tokens: &mut Tokens) -> Result<Command, TextFault>
+pub(crate) fn read_class(alloc: Global, tokens: &mut Tokens) -> Result<Command, TextFault>
     ensures { Reads (λ c. c) result (class_command_at tokens.old) tokens.new }
 {
     Ok(Command::Class(take_class(alloc, tokens)?))
 }
 
 #[tactic(auto, unfolding(rio_step::specs::Script::put_command_at))]
-fn read_put(alloc: Global, tokens: &mut Tokens) -> Result<Command, TextFault>
+pub(crate) fn read_put(alloc: Global, tokens: &mut Tokens) -> Result<Command, TextFault>
     ensures { Reads (λ c. c) result (ended_at (put_command_at tokens.old)) tokens.new }
 {
     let name = tokens.take_item()?;
@@ -75,7 +75,7 @@ fn read_put(alloc: Global, tokens: &mut Tokens) -> Result<Command, TextFault>
 }
 
 #[tactic(auto, unfolding(rio_step::specs::Script::delete_command_at))]
-fn read_delete(alloc: Global, tokens: &mut Tokens) -> Result<Command, TextFault>
+pub(crate) fn read_delete(alloc: Global, tokens: &mut Tokens) -> Result<Command, TextFault>
     ensures { Reads (λ c. c) result (ended_at (delete_command_at tokens.old)) tokens.new }
 {
     let name = tokens.take_item()?;
@@ -112,7 +112,7 @@ fn read_asked_version(tokens: &mut Tokens) -> Result<Option<i32>, TextFault>
 }
 
 #[tactic(auto, unfolding(rio_step::specs::Script::get_command_at))]
-fn read_get(alloc: Global, tokens: &mut Tokens) -> Result<Command, TextFault>
+pub(crate) fn read_get(alloc: Global, tokens: &mut Tokens) -> Result<Command, TextFault>
     ensures { Reads (λ c. c) result (ended_at (get_command_at tokens.old)) tokens.new }
 {
     let name = tokens.take_item()?;
@@ -127,7 +127,7 @@ fn read_get(alloc: Global, tokens: &mut Tokens) -> Result<Command, TextFault>
     })
 }
 
-fn read_ls(tokens: &mut Tokens) -> Result<Command, TextFault>
+pub(crate) fn read_ls(tokens: &mut Tokens) -> Result<Command, TextFault>
     ensures { Reads (λ c. c) result (ended_at (Ok (Command.Ls, tokens.old))) tokens.new }
 {
     tokens.expect_end()?;

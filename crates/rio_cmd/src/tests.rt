@@ -1,8 +1,10 @@
 //! Scripts as they are read, by the rules of the language.
-use crate::read_script;
+use crate::{read_script, read_whole_script};
 use rio_decl::print_class;
-use rio_machine::Command;
+use rio_leaf::{BranchDef, Shape, print_leaves};
+use rio_machine::{Command, Commands};
 use rio_num::{Bytes, NoMemory};
+use rio_types::Base;
 use rio_valtext::print_value;
 use std::alloc::Global;
 use std::test::Fail;
@@ -21,6 +23,59 @@ fn put_version(text: &mut Bytes, version: i32) -> Result<(), NoMemory> {
     text.put_integer(i128::from(version))
 }
 
+fn put_name(text: &mut Bytes, before: &[u8], name: &[u8]) -> Result<(), NoMemory> {
+    text.put(before)?;
+    text.put(name)
+}
+
+fn put_branch(text: &mut Bytes, branch: &BranchDef) -> Result<(), NoMemory> {
+    put_name(text, b" ", branch.name.as_slice())?;
+    text.put(b"=")?;
+    match &branch.shape {
+        Shape::Leaves(leaves) => print_leaves(leaves, text),
+        Shape::Class(class) => put_name(text, b"class:", class.as_slice()),
+    }
+}
+
+fn put_branches(text: &mut Bytes, branches: &[BranchDef]) -> Result<(), NoMemory> {
+    for branch in branches {
+        put_branch(text, branch)?;
+    }
+    Ok(())
+}
+
+fn put_class_version(text: &mut Bytes, class: &Base) -> Result<(), NoMemory> {
+    put_name(text, b" as ", class.name.as_slice())?;
+    text.put(b"#")?;
+    text.put_integer(i128::from(class.version))
+}
+
+fn put_tree_command(text: &mut Bytes, command: &Command) -> Result<(), NoMemory> {
+    match command {
+        Command::Tree { name, branches } => {
+            put_name(text, b"tree ", name.as_slice())?;
+            put_branches(text, branches.as_slice())
+        }
+        Command::Fill { name, row } => {
+            put_name(text, b"fill ", name.as_slice())?;
+            for value in row.as_slice() {
+                text.put(b" ")?;
+                print_value(value, text)?;
+            }
+            Ok(())
+        }
+        Command::Save { name } => put_name(text, b"save ", name.as_slice()),
+        Command::Scan { name, class } => {
+            put_name(text, b"scan ", name.as_slice())?;
+            match class {
+                Some(class) => put_class_version(text, class),
+                None => Ok(()),
+            }
+        }
+        _ => text.put(b"another"),
+    }
+}
+
 fn put_command(text: &mut Bytes, command: &Command) -> Result<(), NoMemory> {
     match command {
         Command::Bad { line, place } => {
@@ -29,14 +84,12 @@ fn put_command(text: &mut Bytes, command: &Command) -> Result<(), NoMemory> {
         }
         Command::Class(class) => print_class(class, text),
         Command::Put { name, value } => {
-            text.put(b"put ")?;
-            text.put(name.as_slice())?;
+            put_name(text, b"put ", name.as_slice())?;
             text.put(b" ")?;
             print_value(value, text)
         }
         Command::Delete { name, cycle } => {
-            text.put(b"delete ")?;
-            text.put(name.as_slice())?;
+            put_name(text, b"delete ", name.as_slice())?;
             put_cycle(text, *cycle)
         }
         Command::Get {
@@ -44,8 +97,7 @@ fn put_command(text: &mut Bytes, command: &Command) -> Result<(), NoMemory> {
             cycle,
             version,
         } => {
-            text.put(b"get ")?;
-            text.put(name.as_slice())?;
+            put_name(text, b"get ", name.as_slice())?;
             if let Some(cycle) = cycle {
                 put_cycle(text, *cycle)?;
             }
@@ -55,22 +107,31 @@ fn put_command(text: &mut Bytes, command: &Command) -> Result<(), NoMemory> {
             }
         }
         Command::Ls => text.put(b"ls"),
-        _ => text.put(b"another"),
+        _ => put_tree_command(text, command),
     }
 }
 
-// The commands of a script, a line for each.
-fn commands_of(alloc: Global, script: &[u8]) -> Result<Bytes, NoMemory> {
-    if script.len() >= 0x1_0000_0000 {
-        return Err(NoMemory);
-    }
-    let commands = read_script(alloc, script)?;
+// A line for each of the commands.
+fn text_of(alloc: Global, commands: &Commands) -> Result<Bytes, NoMemory> {
     let mut text = Bytes::new(alloc);
     for command in commands.as_slice() {
         put_command(&mut text, command)?;
         text.put(b"\n")?;
     }
     Ok(text)
+}
+
+// The commands of a script, a line for each.
+fn commands_of(alloc: Global, script: &[u8], whole: bool) -> Result<Bytes, NoMemory> {
+    if script.len() >= 0x1_0000_0000 {
+        return Err(NoMemory);
+    }
+    let commands = if whole {
+        read_whole_script(alloc, script)?
+    } else {
+        read_script(alloc, script)?
+    };
+    text_of(alloc, &commands)
 }
 
 #[test]
@@ -124,7 +185,114 @@ fn reads_scripts(rt: HostRuntime) -> Result<(), Fail> {
         ),
     ];
     for (script, expected) in table {
-        let text = commands_of(rt.alloc(), script)?;
+        let text = commands_of(rt.alloc(), script, false)?;
+        assert!(rt; text.as_slice() == expected);
+    }
+    Ok(())
+}
+
+#[test]
+fn reads_lines_of_trees(rt: HostRuntime) -> Result<(), Fail> {
+    let table: [(&[u8], &[u8]); 24] = [
+        (
+            b"put s TObjString{\nfrob x\ndelete s;02\ntree V\ntree\ntrees V x=x/I\n",
+            b"bad 1 17\nbad 2 0\nbad 3 9\nbad 4 6\nbad 5 4\nbad 6 0\n",
+        ),
+        (
+            b"tree V v=v[n]/F\ntree V v= v/F\ntree V c=c[3]/C\ntree V a=a/I b=a/I\n",
+            b"bad 1 11\nbad 2 10\nbad 3 14\nbad 4 15\n",
+        ),
+        (
+            b"tree V a=class/I b=class/I\ntree V a=class/I b=class:P\ntree V a=class/I\n",
+            b"bad 1 24\ntree V a=class/I b=class:P\ntree V a=class/I\n",
+        ),
+        (
+            b"tree V n=n/I v=v[n]/F:w[3]/B o=class:P\n",
+            b"tree V n=n/I v=v[n]/F:w[3]/B o=class:P\n",
+        ),
+        (
+            b"tree\t.-+  x=x/I\t y=y/D \n tree 7 n=n/I:v[n]/F\n",
+            b"tree .-+ x=x/I y=y/D\ntree 7 n=n/I:v[n]/F\n",
+        ),
+        (
+            b"tree V x=x/C:b/B:c/b:d/S:e/s:f/i:g/L:h/l:i/F:j/D:k/O\n",
+            b"tree V x=x/C:b/B:c/b:d/S:e/s:f/i:g/L:h/l:i/F:j/D:k/O\n",
+        ),
+        (
+            b"tree V x=x[2]/I y=y[100000]/O\ntree V x=x[1]/I\ntree V x=x[100001]/I\n",
+            b"tree V x=x[2]/I y=y[100000]/O\nbad 2 11\nbad 3 11\n",
+        ),
+        (
+            b"tree V x=x[0]/I\ntree V x=x[02]/I\ntree V x=x[-2]/I\ntree V x=x[]/I\n",
+            b"bad 1 11\nbad 2 11\nbad 3 11\nbad 4 11\n",
+        ),
+        (
+            b"tree V a=a/I a=b/I\ntree V a=a/I:a/I\ntree V a=b/I b=a/I\n",
+            b"bad 1 13\nbad 2 13\ntree V a=b/I b=a/I\n",
+        ),
+        (
+            b"tree V n=n[2]/I v=v[n]/F\ntree V n=n/i v=v[n]/F\ntree V v=v[n]/F:n/I\n",
+            b"bad 1 20\nbad 2 17\nbad 3 11\n",
+        ),
+        (
+            b"tree V v=v[v]/I\ntree V v=v/I w=w[w]/I\ntree V v=v/I w=w[v]/I:u[w]/I\n",
+            b"bad 1 11\nbad 2 17\nbad 3 24\n",
+        ),
+        (
+            b"tree V v=v /F\ntree V v =v/F\ntree V v=v/ F\ntree V v=v/F :w/F\n",
+            b"bad 1 11\nbad 2 9\nbad 3 12\nbad 4 13\n",
+        ),
+        (
+            b"tree V v=v[ 2]/F\ntree V v=v [2]/F\ntree V v=v[2 ]/F\ntree V v=v[2] /F\n",
+            b"bad 1 12\nbad 2 11\nbad 3 13\nbad 4 14\n",
+        ),
+        (
+            b"tree V v=v/F: w/F\ntree V v=v/F:\ntree V v=v/F;\ntree V v=v/F,w=w/F\n",
+            b"bad 1 14\nbad 2 13\nbad 3 12\nbad 4 12\n",
+        ),
+        (
+            b"tree V o=class P\ntree V o=class\ntree V o=class :P\ntree V o=class: P\n",
+            b"bad 1 15\nbad 2 14\nbad 3 15\nbad 4 16\n",
+        ),
+        (
+            b"tree V o=class:7\ntree V o=class:P:x/I\ntree V o=class:P[2]\ntree V o=Class:P\n",
+            b"bad 1 15\nbad 2 16\nbad 3 16\nbad 4 14\n",
+        ),
+        (
+            b"tree V o=class:P o=class:Q\ntree V o=class:P p=class:P\ntree V class=class:P\n",
+            b"bad 1 17\ntree V o=class:P p=class:P\ntree V class=class:P\n",
+        ),
+        (
+            b"tree V o=x/I:class/I p=class\ntree V o=class/I:class/I\n",
+            b"bad 1 28\nbad 2 17\n",
+        ),
+        (
+            b"tree V x=x/Q\ntree V x=x/II\ntree V x=x/\ntree V x=x\ntree V x=\ntree V x\n",
+            b"bad 1 11\nbad 2 11\nbad 3 11\nbad 4 10\nbad 5 9\nbad 6 8\n",
+        ),
+        (
+            b"tree V 7=x/I\ntree V x=7/I\ntree V x-=x/I\ntree V x==x/I\ntree V \"x\"=x/I\n",
+            b"bad 1 7\nbad 2 9\nbad 3 7\nbad 4 9\nbad 5 7\n",
+        ),
+        (
+            b"fill T [1, \"a\", [2, 3]]\nfill T []\nfill T\nfill T 1\nfill T [1] x\nfill [1]\n",
+            b"fill T 1 \"a\" [2, 3]\nfill T\nbad 3 6\nbad 4 7\nbad 5 11\nbad 6 5\n",
+        ),
+        (
+            b"save T\nsave\nsave T;2\nsave a b\nsave .\n",
+            b"save T\nbad 2 4\nbad 3 6\nbad 4 7\nsave .\n",
+        ),
+        (
+            b"scan T\nscan T as P#2\nscan T as P # 32767 \nscan as as as#1\nscan as\n",
+            b"scan T\nscan T as P#2\nscan T as P#32767\nscan as as as#1\nscan as\n",
+        ),
+        (
+            b"scan T as P\nscan T as P#0\nscan T as\nscan T P#2\nscan T as P#2 x\nscan T;1\n",
+            b"bad 1 11\nbad 2 12\nbad 3 9\nbad 4 7\nbad 5 14\nbad 6 6\n",
+        ),
+    ];
+    for (script, expected) in table {
+        let text = commands_of(rt.alloc(), script, true)?;
         assert!(rt; text.as_slice() == expected);
     }
     Ok(())

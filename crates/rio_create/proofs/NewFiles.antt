@@ -6,8 +6,8 @@ use Rattle.rio_chain.specs.Segments.{Link, RecordAt}
 use Rattle.rio_chain.specs.{NewRecords.{IsNewRecord}, Record.{new_key}}
 use Rattle.rio_chain.proofs.Records.{are_new_records}
 use Rattle.rio_machine.specs.State.{empty_state}
-use Rattle.rio_state.specs.Closing.{KeptRecords, closing_lengths, free_length, held_of, item_heads, kept_count, kept_in, list_length, name_in}
-use Rattle.rio_state.specs.{DirectoryKeys.{AreKeysOf}, KeyedRecords.{KeyedRecord, info_key, keyed_records, record_with_head, top_keys}, Reads.{AreRecordsOf}}
+use Rattle.rio_state.specs.Closing.{KeptRecords, closing_lengths, free_length, held_beside, held_of, held_with, item_heads, kept_in, kept_of, kept_with, list_length, name_in}
+use Rattle.rio_state.specs.{DirectoryKeys.{AreKeysOf}, KeyedRecords.{KeyedRecord, info_key, keyed_records, record_with_head, top_keys, tree_records}, Reads.{AreRecordsOf}, TreeLengths.{none_pending, put_among}}
 use Rattle.rio_state.proofs.EmptyState.{none_counts}
 use Rattle.rio_create.specs.NewFile.{first_data, first_length, first_record, first_words}
 use Rattle.rio_create.proofs.Lengths.{first_low, key_long, size_is, words_fit}
@@ -20,7 +20,7 @@ first_only head bytes = record { head = head; bytes = bytes } ∷ []
 
 -- what is kept of it
 abbrev kept : List ℕ → KeptRecords
-kept name = record { name = name; heads = []; count = 1 }
+kept name = record { name = name; heads = []; count = 1; trees = [] }
 
 -- by the key that the words make, whatever its lengths are
 module _ (name : List ℕ) (datime n : ℕ) (bytes : List ℕ) where
@@ -68,14 +68,15 @@ module _ (name uuid : List ℕ) (datime : ℕ) (short : length name ≤ 200) (lo
   new_info = ap info_key keyed ∙ only_info name datime count first
 
   abbrev keep : List KeyedRecord → KeptRecords
-  keep records = let heads = item_heads (top_keys records) in record { name = name_in records; heads = heads; count = kept_count (info_key records) heads }
+  keep records = let tops = top_keys records in kept_of none_pending (name_in records) (info_key records) (item_heads tops) (tree_records tops)
 
   pub new_kept : kept_in links ≡ kept name
-  unfolding kept_in
+  unfolding kept_with put_among
   new_kept = ap keep keyed
 
   pub new_held : held_of links ≤ 10000
-  unfolding held_of
+  unfolding held_with
   new_held =
       let closing : sum_by (λ n. n + 3) (closing_lengths (kept_in links)) ≡ list_length (kept name) + 3 + (free_length (kept name) + 3) = ap (λ (k : KeptRecords). sum_by (λ n. n + 3) (closing_lengths k)) new_kept ∙ omega arith in
-      omega (arith, closing, key_long name short, first_size, first_low name short)
+      let beside : held_beside (kept_in links) ≡ 0 = ap held_beside new_kept in
+      omega (arith, closing, beside, key_long name short, first_size, first_low name short)

@@ -1,16 +1,18 @@
 -- With the record of a class list that has one class more, records stand for the state with the class.
-use Rattle.std.proofs.Common.{◌≡◌, ◌<◌, ◌∙◌, ◌==◌, List, [], ◌∷◌, ◌++◌, length, Bool, true, false, cond, not, ltb, Option, Some, None, refl, sym, ap, subst, arith}
+use Rattle.std.proofs.Common.{◌≡◌, ◌<◌, ◌∙◌, ◌==◌, List, [], ◌∷◌, ◌++◌, length, Bool, true, false, cond, not, ltb, Option, Some, None, refl, sym, ap, subst, append_assoc, arith}
 use Rattle.std.proofs.lemmas.{Bool.{and_from, and_left, and_parts, and_right, le-ltb, lt-ltb, ltb-false, ltb-true}, List.{drop_at}, Option.{same_Some}}
-use Rattle.std.specs.{Prelude.{if◌then◌else◌, is_some, option_and_then, ◌↔◌}, List.{Contains, find, list_all}, Str.{bytes_eq}}
+use Rattle.std.specs.{Prelude.{if◌then◌else◌, is_some, option_and_then, ◌↔◌}, List.{Contains, find, list_all}, Result.{result_unwrap_or}, Str.{bytes_eq}}
 use Rattle.rio_types.specs.declared.class.ClassDef.{ClassDef}
 use Rattle.rio_value.specs.declared.value.Value.{Value}
 use Rattle.rio_key.specs.declared.head.KeyHead.{KeyHead}
-use Rattle.rio_format.specs.TreeClasses.{tree_classes}
+use Rattle.rio_format.specs.{Growth.{PicksStay}, TreeClasses.{tree_classes, written_classes}}
+use Rattle.rio_format.proofs.Picks.{later_leave_picks}
+use Rattle.rio_effect.proofs.TreesGrow.{one_class_more, tree_grows}
 use Rattle.rio_machine.specs.State.{State}
-use Rattle.rio_state.specs.Contents.{IsStateList, classes_behind, object_in, state_classes, tree_of}
-use Rattle.rio_state.specs.KeyedRecords.{KeyedRecord, has_info_name, has_item, info_key, is_elsewhere, is_in_directory, is_info_key, is_top_key, later_info, first_place, is_internal, object_records, tree_records, top_keys}
+use Rattle.rio_state.specs.{Contents.{HasStateClasses, IsStateList, classes_behind, described_classes, file_classes, object_in, state_classes}, Trees.{TreesBeside, tree_of}}
+use Rattle.rio_state.specs.KeyedRecords.{KeyedRecord, begins_at, has_info_name, has_item, info_key, is_elsewhere, is_in_directory, is_info_key, is_top_key, later_info, first_place, is_internal, object_records, tree_records, top_keys}
 use Rattle.rio_state.specs.{Closing.{item_heads}, DirectoryKeys.{AreKeysOf}, OneMore.{HasOneMoreIn}, Reads.{AreRecordsOf, StandsForState}}
-use Rattle.rio_state.proofs.{Insertion.{all_more}, Stays.{tops_same}, Unreferred.{tree_kept}}
+use Rattle.rio_state.proofs.{Insertion.{all_more}, Stays.{tops_same}, TreesSame.{all_agree, found_agree, tree_stays}, Members.{In, all_at}}
 use Rattle.rio_effect.proofs.ObjectsStay.{objects_stay}
 
 -- ---- the class list that counts
@@ -67,7 +69,7 @@ pub next_counts : (old new : List KeyedRecord) (r : KeyedRecord) → HasOneMoreI
 next_counts old new r h key newer = ap info_key h.after ∙ counts_in r h.front h.back key (subst (λ (rs : List KeyedRecord). IsNewerThan r (info_key rs)) h.before newer)
 
 -- the classes of a list, those of trees left out
-listed_classes : (info : KeyedRecord) (classes : List ClassDef) → IsStateList info classes → state_classes (Some info) ≡ classes
+pub listed_classes : (info : KeyedRecord) (classes : List ClassDef) → IsStateList info classes → state_classes (Some info) ≡ classes
 listed_classes info classes list = ap classes_behind list.list ∙ drop_at tree_classes classes (length tree_classes) refl
 
 -- ---- objects and trees
@@ -115,7 +117,7 @@ module _ (old new : List KeyedRecord) (info : Option KeyedRecord) (r : KeyedReco
   one_more : after ≡ m.classes ++ class ∷ []
   one_more = listed_classes r (m.classes ++ class ∷ []) list
 
-  appended : after ≡ before ++ class ∷ []
+  pub appended : after ≡ before ++ class ∷ []
   appended = one_more ∙ ap (λ (cs : List ClassDef). cs ++ class ∷ []) s.classes
 
   object_same : (t : KeyedRecord) → is_some (object_in before t) ≡ true → object_in after t ≡ object_in before t
@@ -124,11 +126,32 @@ module _ (old new : List KeyedRecord) (info : Option KeyedRecord) (r : KeyedReco
   abbrev headers : List KeyedRecord
   headers = tree_records tops
 
-  tree_same : (t : KeyedRecord) → is_some (tree_of before old headers t) ≡ true → tree_of after new headers t ≡ tree_of before old headers t
-  tree_same t e = tree_kept after before new old headers t
+  abbrev beside : Option KeyedRecord → List KeyedRecord → TreesBeside
+  beside list records = record { classes = file_classes list; records = records; headers = headers }
 
-  class_stands : StandsForState new (Some r) tops (record m { classes = m.classes ++ class ∷ [] })
-  class_stands = record {
+  -- what headers are read by has one class more too
+  pub described_longer : (o : Option KeyedRecord) → HasStateClasses o → after ≡ state_classes o ++ class ∷ [] → PicksStay (described_classes o) (described_classes (Some r))
+  described_longer None has e = later_leave_picks [] (described_classes (Some r))
+  described_longer (Some k) has e =
+      let now : described_classes (Some r) ≡ written_classes (m.classes ++ class ∷ []) = ap (λ d. result_unwrap_or d []) list.list in
+      let before_is : described_classes (Some k) ≡ written_classes (state_classes (Some k)) = ap (λ d. result_unwrap_or d []) has.list in
+      let longer : described_classes (Some r) ≡ described_classes (Some k) ++ class ∷ []
+      = now ∙ ap written_classes (sym one_more ∙ e) ∙ sym (append_assoc tree_classes (state_classes (Some k)) (class ∷ [])) ∙ ap (λ (cs : List ClassDef). cs ++ class ∷ []) (sym before_is) in
+      subst (PicksStay (described_classes (Some k))) (sym longer) (later_leave_picks (described_classes (Some k)) (class ∷ []))
+
+  module _ (more : HasOneMoreIn old new r) (free : begins_at old r.head.seek ≡ false) where
+    tree_there : (t : KeyedRecord) → In t headers → tree_of (beside info old) t ≡ tree_of (beside info new) t
+    tree_there t i = tree_stays (file_classes info) headers old new r more t free (all_at (λ k. is_some (tree_of (beside info old) k)) t headers s.tree_readable i)
+
+    still_readable : list_all (λ t. is_some (tree_of (beside info new) t)) headers ≡ true
+    still_readable = sym (all_agree (λ t. is_some (tree_of (beside info old) t)) (λ t. is_some (tree_of (beside info new) t)) headers (λ t i. ap is_some (tree_there t i))) ∙ s.tree_readable
+
+    tree_same : (t : KeyedRecord) → In t headers → tree_of (beside (Some r) new) t ≡ tree_of (beside info old) t
+    tree_same t i =
+        tree_grows (file_classes info) (file_classes (Some r)) (one_class_more before after class appended) (described_longer info s.listed appended) new headers still_readable t i ∙ sym (tree_there t i)
+
+  class_stands : HasOneMoreIn old new r → begins_at old r.head.seek ≡ false → StandsForState new (Some r) tops (record m { classes = m.classes ++ class ∷ [] })
+  class_stands more free = record {
     listed = subst (λ (cs : List ClassDef). IsStateList r cs) (sym one_more) list;
     classes = sym one_more;
     named = s.named;
@@ -136,8 +159,8 @@ module _ (old new : List KeyedRecord) (info : Option KeyedRecord) (r : KeyedReco
     apart = s.apart;
     readable = all_read (object_in before) (object_in after) object_same (object_records tops) s.readable;
     objects = λ item. s.objects item ∙ sym (same_under (object_in before) (object_in after) object_same (has_item item) (object_records tops) s.readable);
-    tree_readable = all_read (tree_of before old headers) (tree_of after new headers) tree_same headers s.tree_readable;
-    trees = λ name. s.trees name ∙ sym (same_under (tree_of before old headers) (tree_of after new headers) tree_same (λ t. bytes_eq t.head.name name) headers s.tree_readable);
+    tree_readable = all_agree (λ t. is_some (tree_of (beside (Some r) new) t)) (λ t. is_some (tree_of (beside info old) t)) headers (λ t i. ap is_some (tree_same more free t i)) ∙ s.tree_readable;
+    trees = λ name. s.trees name ∙ sym (found_agree (tree_of (beside (Some r) new)) (tree_of (beside info old)) (λ t. bytes_eq t.head.name name) headers (tree_same more free));
   }
 
 -- ---- the key of a class list
@@ -146,20 +169,20 @@ module _ (head : KeyHead) (e : is_info_key head ≡ true) where
   pub not_top : is_top_key head ≡ false
   not_top = let parts = and_parts (is_in_directory head) (has_info_name head) e in and_right (is_in_directory head) (not (has_info_name head)) (ap not parts.1)
 
-  not_elsewhere : is_elsewhere head ≡ false
+  pub not_elsewhere : is_elsewhere head ≡ false
   not_elsewhere =
       let parts = and_parts (is_in_directory head) (has_info_name head) e in
       let inside = and_parts (head.pdir == first_place) (not (is_internal head)) parts.0 in
       and_left (not (head.pdir == first_place)) (not (is_internal head)) (ap not inside.0)
 
 -- With the record of such a list the records stand for the state with the class, and all else of it is as it was.
-pub next_list_takes_effect : (old new : List KeyedRecord) (r : KeyedRecord) (m : State) (class : ClassDef) → HasOneMoreIn old new r → IsNextList old m class r → AreRecordsOf old m
-    → AreRecordsOf new (record m { classes = m.classes ++ class ∷ [] })
-next_list_takes_effect old new r m class h next is =
+pub next_list_takes_effect : (old new : List KeyedRecord) (r : KeyedRecord) (m : State) (class : ClassDef) → HasOneMoreIn old new r → begins_at old r.head.seek ≡ false → IsNextList old m class r
+    → AreRecordsOf old m → AreRecordsOf new (record m { classes = m.classes ++ class ∷ [] })
+next_list_takes_effect old new r m class h free next is =
     let tops = tops_same old new r h (not_top r.head next.key) in
     let info = next_counts old new r h next.key next.newer in
     let after : State = record m { classes = m.classes ++ class ∷ [] } in
-    let stand : StandsForState new (Some r) (top_keys old) after = class_stands old new (info_key old) r (top_keys old) m class is.stand next.list in
+    let stand : StandsForState new (Some r) (top_keys old) after = class_stands old new (info_key old) r (top_keys old) m class is.stand next.list h free in
     let with_tops = subst (λ (ts : List KeyedRecord). StandsForState new (Some r) ts after) (sym tops) stand in
     record {
       here = all_more (λ s. not (is_elsewhere s.head)) r old new h (ap not (not_elsewhere r.head next.key)) is.here;

@@ -1,18 +1,18 @@
 -- Without the record of an object the records stand for the state without the object.
-use Rattle.std.proofs.Common.{◌≡◌, ◌∙◌, List, Bool, true, false, cond, not, Option, Some, None, refl, sym, ap, subst}
+use Rattle.std.proofs.Common.{◌≡◌, ◌∙◌, List, Bool, true, false, cond, not, ◌==◌, Option, Some, None, refl, sym, ap, subst}
 use Rattle.std.proofs.{lemmas.Bool.{not-true}, lemmas.Map.Views.{tells_apart}, lemmas.Slice.Eq.{bytes_eq-Decides}}
 use Rattle.std.specs.{Prelude.{is_some, option_and_then}, FinMap.{get, get-remove, remove}, List.{find, list_all, list_any}, Str.{bytes_eq}}
 use Rattle.rio_types.specs.declared.class.ClassDef.{ClassDef}
 use Rattle.rio_machine.proofs.OrderLaws.{items_tie, items_total}
 use Rattle.rio_machine.specs.State.{NameAndCycle, State, names_tree}
-use Rattle.rio_state.specs.Contents.{object_in, state_classes, tree_of}
+use Rattle.rio_state.specs.{Contents.{file_classes, object_in, state_classes}, Trees.{TreesBeside, places_named, tree_of, tree_under}}
 use Rattle.rio_state.specs.KeyedRecords.{KeyedRecord, has_item, info_key, is_elsewhere, is_mixed_name, is_top_key, is_tree_key, item_of_key, object_records, top_keys, tree_records}
 use Rattle.rio_state.specs.{Reads.{AreRecordsOf, StandsForState, is_named_key, object_under}, OneMore.{HasOneMoreIn}}
 use Rattle.rio_state.proofs.{Collected.{item_same}, Insertion.{filter_more, find_none, find_same}, KeyRecords.{tree_apart}}
 use Rattle.rio_state.proofs.{Members.{In, found}, ObjectStands.{any_filter, objects_more, trees_same}, Stays.{info_same}}
 use Rattle.rio_state.proofs.KeysFollow.{in_new}
 use Rattle.rio_effect.specs.Laws.{IsObjectKey}
-use Rattle.rio_state.proofs.{Removal.{all_less, all_weaker, distinct_less}, Unreferred.{mixed_less, tree_kept}}
+use Rattle.rio_state.proofs.{Removal.{all_less, all_weaker, distinct_less}, TreesSame.{all_agree, found_agree, tree_kept}, Unreferred.{mixed_less}}
 
 module _ (old new : List KeyedRecord) (r : KeyedRecord) (h : HasOneMoreIn new old r) (m : State) (is : AreRecordsOf old m) (key : IsObjectKey r.head) where
   abbrev tops : List KeyedRecord
@@ -23,6 +23,9 @@ module _ (old new : List KeyedRecord) (r : KeyedRecord) (h : HasOneMoreIn new ol
 
   abbrev classes : List ClassDef
   classes = state_classes (info_key old)
+
+  abbrev beside : List KeyedRecord → List KeyedRecord → TreesBeside
+  beside records headers = record { classes = file_classes (info_key old); records = records; headers = headers }
 
   pub tops_less : HasOneMoreIn left tops r
   tops_less = filter_more (λ s. is_top_key s.head) r new old h key.top
@@ -40,7 +43,7 @@ module _ (old new : List KeyedRecord) (r : KeyedRecord) (h : HasOneMoreIn new ol
   no_tree_of_name = by (find (λ t. bytes_eq t.head.name r.head.name) (tree_records tops)) refl
     where
       by : (o : Option KeyedRecord) → find (λ t. bytes_eq t.head.name r.head.name) (tree_records tops) ≡ o → names_tree m r.head.name ≡ false
-      by None e = ap is_some (is.stand.trees r.head.name ∙ ap (option_and_then (tree_of classes old (tree_records tops))) e)
+      by None e = ap is_some (is.stand.trees r.head.name ∙ ap (option_and_then (tree_of (beside old (tree_records tops)))) e)
       by (Some t) e =
           let f = found (λ t. bytes_eq t.head.name r.head.name) t (tree_records tops) e in
           absurd (tree_apart old m is t r f.among among ((bytes_eq-Decides t.head.name r.head.name).0 f.passes))
@@ -66,12 +69,19 @@ module _ (old new : List KeyedRecord) (r : KeyedRecord) (h : HasOneMoreIn new ol
       all_weaker (λ s. not (is_mixed_name tops s.head.name)) (λ s. not (is_mixed_name left s.head.name)) (λ s e. ap not (mixed_less tops left r tops_less s.head.name (not-true _ e))) left
       (all_less (λ s. not (is_mixed_name tops s.head.name)) r tops left tops_less is.stand.apart)
 
+  -- no tree names the place of the object
+  abbrev pub IsNotNamed : Type 0
+  IsNotNamed = (s : KeyedRecord) → In s (tree_records tops) → list_any (λ p. p == r.head.seek) (places_named (file_classes (info_key old)) s) ≡ false
+
+  tree_same : IsNotNamed → (s : KeyedRecord) → In s (tree_records tops) → tree_of (beside new (tree_records tops)) s ≡ tree_of (beside old (tree_records tops)) s
+  tree_same apart s i = tree_kept (file_classes (info_key old)) (tree_records tops) new old r h s (apart s i)
+
   less : State
   less = record m { objects = remove m.objects (item_of_key r.head) }
 
-  stands : StandsForState new (info_key old) left less
+  stands : IsNotNamed → StandsForState new (info_key old) left less
   unfolding less
-  stands = record {
+  stands apart = record {
     listed = is.stand.listed;
     classes = is.stand.classes;
     named = all_less (λ s. is_named_key s.head) r tops left tops_less is.stand.named;
@@ -79,17 +89,17 @@ module _ (old new : List KeyedRecord) (r : KeyedRecord) (h : HasOneMoreIn new ol
     apart = names_apart;
     readable = all_less (λ s. is_some (object_in classes s)) r (object_records tops) (object_records left) objects_less is.stand.readable;
     objects = objects_hold;
-    tree_readable = ap (λ (ts : List KeyedRecord). list_all (λ s. is_some (tree_of classes new ts s)) ts) (sym same_trees)
-        ∙ (λ i. list_all (λ s. is_some (tree_kept classes classes new old (tree_records tops) s i)) (tree_records tops))
+    tree_readable = ap (λ (ts : List KeyedRecord). list_all (λ s. is_some (tree_of (beside new ts) s)) ts) (sym same_trees)
+        ∙ all_agree (λ s. is_some (tree_of (beside new (tree_records tops)) s)) (λ s. is_some (tree_of (beside old (tree_records tops)) s)) (tree_records tops) (λ s i. ap is_some (tree_same apart s i))
         ∙ is.stand.tree_readable;
     trees = λ name. is.stand.trees name
-        ∙ (λ i. option_and_then (λ s. tree_kept classes classes old new (tree_records tops) s i) (find (λ t. bytes_eq t.head.name name) (tree_records tops)))
-        ∙ ap (λ (ts : List KeyedRecord). option_and_then (tree_of classes new ts) (find (λ t. bytes_eq t.head.name name) ts)) same_trees;
+        ∙ sym (found_agree (tree_of (beside new (tree_records tops))) (tree_of (beside old (tree_records tops))) (λ t. bytes_eq t.head.name name) (tree_records tops) (tree_same apart))
+        ∙ ap (λ (ts : List KeyedRecord). tree_under (beside new ts) name) same_trees;
   }
 
-  pub records_less : AreRecordsOf new (record m { objects = remove m.objects (item_of_key r.head) })
+  pub records_less : IsNotNamed → AreRecordsOf new (record m { objects = remove m.objects (item_of_key r.head) })
   unfolding less
-  records_less = record {
+  records_less apart = record {
     here = all_less (λ s. not (is_elsewhere s.head)) r old new h is.here;
-    stand = subst (λ (o : Option KeyedRecord). StandsForState new o left less) (info_same new old r h key.other) stands;
+    stand = subst (λ (o : Option KeyedRecord). StandsForState new o left less) (info_same new old r h key.other) (stands apart);
   }

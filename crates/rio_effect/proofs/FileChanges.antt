@@ -11,8 +11,9 @@ use Rattle.rio_chain.specs.{Record.{key_size, new_key, record_bytes, unpadded}, 
 use Rattle.rio_chain.proofs.Records.{key_long}
 use Rattle.rio_value.specs.declared.value.Value.{Value}
 use Rattle.rio_step.specs.Refusing.{with_class}
+use Rattle.rio_effect.proofs.BasketLength.{record_long}
 use Rattle.rio_effect.specs.ClassRecord.{list_data, list_record, list_words, next_list_cycle, record_of_class}
-use Rattle.rio_effect.specs.{FileRuns.{SegmentsFollow, added, released, added_length, added_place, bytes_at}, ObjectRecord.{data_of_put, object_record, record_of_put, words_of_put}}
+use Rattle.rio_effect.specs.{FileRuns.{SegmentsFollow, added, basket_added, basket_place, released, added_length, added_place, bytes_at}, TreeRecords.{record_of_basket}, ObjectRecord.{data_of_put, object_record, record_of_put, words_of_put}}
 
 -- how long a front is with its zero bytes
 abbrev filled : ℕ → ℕ
@@ -34,6 +35,9 @@ same_length place words contents = record_size (record words { place = place }) 
 -- an added record is one segment more, at the place of the rule; a released one is one less
 pub segments_follow : SegmentsFollow
 segments_follow links (released place) = keeps_segments links place
+segments_follow links (basket_added words) =
+    let place = basket_place links words in
+    map_with place (record_of_basket place words) links ∙ ap (λ (n : ℕ). with_segment place n (map segment_of links)) (record_long place words)
 segments_follow links (added words contents) =
     let place = added_place links words contents in
     map_with place (bytes_at place words contents) links

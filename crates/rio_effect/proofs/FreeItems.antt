@@ -3,7 +3,7 @@ use Rattle.std.proofs.Common.{◌≡◌, inl, inr, ⊎_elim, ℕ, ◌≤◌, ◌
 use Rattle.std.proofs.{lemmas.Bool.{and_from, and_parts, cases_lt, ltb-true}, lemmas.Slice.Eq.{bytes_eq-Decides}}
 use Rattle.std.specs.{Prelude.{is_some, nat_lt, option_and_then}, FinMap.{get}, List.{find, list_all, list_any}, Str.{bytes_eq}}
 use Rattle.rio_machine.specs.State.{NameAndCycle, State, names_tree}
-use Rattle.rio_state.specs.Contents.{object_in, state_classes, tree_of}
+use Rattle.rio_state.specs.{Contents.{object_in, state_classes}, Trees.{tree_of, trees_beside}}
 use Rattle.rio_state.specs.{KeyedRecords.{KeyedRecord, has_item, is_tree_key, is_tree_record, object_records, tree_records}, Reads.{StandsForState}}
 use Rattle.rio_state.proofs.{Insertion.{any_none}, Members.{In, all_at, found, in_filter, none_at, none_from}}
 
@@ -87,7 +87,7 @@ module _ (records : List KeyedRecord) (info : Option KeyedRecord) (tops : List K
     where
       none : list_any (λ t. bytes_eq t.head.name name) (tree_records tops) ≡ false
       none =
-          none_found (tree_of (state_classes info) records (tree_records tops)) (λ t. bytes_eq t.head.name name) (tree_records tops) s.tree_readable
+          none_found (tree_of (trees_beside info records tops)) (λ t. bytes_eq t.head.name name) (tree_records tops) s.tree_readable
           (ap is_some (sym (s.trees name)) ∙ e)
 
       by : (b : Bool) → list_any (is_tree_named name) tops ≡ b → b ≡ false

@@ -1,25 +1,24 @@
 -- The keys of a file stand for the objects of the state that its records stand for.
-use Rattle.std.proofs.Common.{◌≡◌, ◌⊎◌, inl, inr, ℕ, ◌∙◌, List, [], ◌∷◌, map, Bool, true, false, cond, ◌&&◌, ◌==◌, Option, Some, None, refl, sym, ap, subst}
-use Rattle.std.proofs.{lemmas.Bool.{and_from}, lemmas.Map.Views.{tells_apart}, lemmas.Option.{same_Some}}
-use Rattle.std.specs.Prelude.{T, is_some, nat_lt, option_and_then, unwrap_or}
+use Rattle.std.proofs.Common.{◌≡◌, ◌⊎◌, inl, inr, ℕ, ◌∙◌, List, [], ◌∷◌, map, Bool, true, false, cond, not, ◌&&◌, ◌==◌, Option, Some, None, refl, sym, ap, subst}
+use Rattle.std.proofs.{lemmas.Bool.{and_from, and_parts, not-true}, lemmas.Slice.Eq.{bytes_eq-Decides}, lemmas.Map.Views.{tells_apart}, lemmas.Option.{same_Some}}
+use Rattle.std.specs.Prelude.{T, is_some, nat_lt, unwrap_or}
 use Rattle.std.specs.FinMap.{contains_key-keys, empty, entries, entries-from_sorted, entries_sorted, find as find_key, from_sorted, get, get-empty, get-entries, get-from_sorted, is_sorted, keys, same_map}
-use Rattle.std.specs.{List.{find as find_by, list_all}, Option.{option_map}, Ordering.{eq_by_cmp, is_lt, nat_cmp, ordering_then}}
-use Rattle.std.specs.{Cmp.{eq_by_cmp_equiv, Lexicographic.{slice_cmp}}, Str.{bytes_eq}, declared.cmp.Ordering.{Ordering, TheVariants.{Less, Equal, Greater}}}
+use Rattle.std.specs.{List.{filter}, Option.{option_map}, Ordering.{eq_by_cmp, is_lt, nat_cmp, ordering_then}}
+use Rattle.std.specs.{Cmp.{eq_by_cmp_equiv, Lexicographic.{slice_cmp}}, declared.cmp.Ordering.{Ordering, TheVariants.{Less, Equal, Greater}}}
 use Rattle.rio_num.specs.Word.{name_order}
 use Rattle.rio_num.proofs.Cases.{is_true, some_of}
-use Rattle.rio_types.specs.declared.class.ClassDef.{ClassDef}
 use Rattle.rio_value.specs.declared.value.Value.{Value}
 use Rattle.rio_key.specs.declared.head.KeyHead.{KeyHead}
 use Rattle.rio_dir.specs.Table.{AreBehind, AreOrdered, comes_before, first_by}
-use Rattle.rio_machine.proofs.OrderLaws.{items_tie, items_total, names_tie, names_total}
+use Rattle.rio_machine.proofs.OrderLaws.{items_tie, items_total}
 use Rattle.rio_machine.specs.State.{NameAndCycle, State, item_order}
 use Rattle.rio_state.proofs.{Collected.{item_same}, KeyRecords.{ObjectOf, TreeOf, holder, key_record, object_of, record_key}}
-use Rattle.rio_state.proofs.Members.{In, all_at, any_from, in_contained, in_map, map_in}
-use Rattle.rio_state.specs.{Contents.{no_tree_is_read, state_classes, tree_of}, DirectoryKeys.{AreKeysOf}}
-use Rattle.rio_state.specs.{KeyedRecords.{KeyedRecord, info_key, item_of_key, top_keys, tree_records}, Reads.{AreRecordsOf}}
-use Rattle.rio_step.specs.{ItemKeys.{AreKeysOfState, told_by_key}, Refusing.{object_class}, Step.{Listed, listed_object, object_listed}}
-use Rattle.rio_effect.specs.Laws.{KeysNameObjects, KeysStandForState}
-use Rattle.rio_effect.proofs.ReadClasses.{object_is_read}
+use Rattle.rio_state.proofs.Members.{In, any_from, filter_in, in_contained, in_filter, in_map, map_in}
+use Rattle.rio_state.specs.{DirectoryKeys.{AreKeysOf}}
+use Rattle.rio_state.specs.{KeyedRecords.{KeyedRecord, info_key, is_tree_key, is_tree_record, item_of_key, top_keys}, Reads.{AreRecordsOf}}
+use Rattle.rio_step.specs.{ItemKeys.{told_by_key}, Refusing.{object_class}, Step.{Listed, listed_object, object_listed}}
+use Rattle.rio_effect.specs.Laws.{KeysNameObjects, KeysStandForState, ObjectKeysStand, object_keys}
+use Rattle.rio_effect.proofs.{FreeItems.{is_tree_named, no_tree_named}, ReadClasses.{object_is_read}}
 
 abbrev pub Told : Type 0
 Told = NameAndCycle × Listed
@@ -111,20 +110,30 @@ found_in item (h ∷ hs) = by (has_key item h) refl (found_in item hs)
 
 -- ---- the objects
 
--- no record stands for a tree yet
-no_tree_record : (classes : List ClassDef) (records headers rs : List KeyedRecord) (r : KeyedRecord) → list_all (λ s. is_some (tree_of classes records headers s)) rs ≡ true → In r rs → ⊥
-no_tree_record classes records headers rs r all i =
-    let there = all_at (λ s. is_some (tree_of classes records headers s)) r rs all i in
-    let none : false ≡ true = sym (ap is_some (no_tree_is_read classes records headers r)) ∙ there in
-    cc
+-- some of the keys stand in their order
+behind_kept : (p : KeyHead → Bool) (name : List ℕ) (cycle : ℕ) (heads : List KeyHead) → AreBehind name cycle heads → AreBehind name cycle (filter p heads)
+behind_kept p name cycle [] are = tt
+behind_kept p name cycle (h ∷ hs) are = by (p h) (behind_kept p name cycle hs are.1)
+  where
+    by : (b : Bool) → AreBehind name cycle (filter p hs) → AreBehind name cycle (cond b (h ∷ filter p hs) (filter p hs))
+    by true rest = (are.0, rest)
+    by false rest = rest
+
+order_kept : (p : KeyHead → Bool) (heads : List KeyHead) → AreOrdered heads → AreOrdered (filter p heads)
+order_kept p [] are = tt
+order_kept p (h ∷ hs) are = by (p h) (order_kept p hs are.1)
+  where
+    by : (b : Bool) → AreOrdered (filter p hs) → AreOrdered (cond b (h ∷ filter p hs) (filter p hs))
+    by true rest = (behind_kept p h.name h.cycle hs are.0, rest)
+    by false rest = rest
 
 module _ (records : List KeyedRecord) (heads : List KeyHead) (m : State) (are : AreKeysOf records heads) (is : AreRecordsOf records m) where
-  abbrev no_tree : (r : KeyedRecord) → In r (tree_records (top_keys records)) → ⊥
-  no_tree r i = no_tree_record (state_classes (info_key records)) records (tree_records (top_keys records)) (tree_records (top_keys records)) r is.stand.tree_readable i
+  abbrev objects : List KeyHead
+  objects = object_keys heads
 
   -- a key that has the item is that of the item's object
-  key_told : (item : NameAndCycle) (h : KeyHead) → In h heads → has_key item h ≡ true → (v : Value) × (get m.objects item ≡ Some v) × (told_of v ≡ object_listed h.class)
-  key_told item h i e = by (key_record records m is heads are h i)
+  key_told : (item : NameAndCycle) (h : KeyHead) → In h objects → has_key item h ≡ true → (v : Value) × (get m.objects item ≡ Some v) × (told_of v ≡ object_listed h.class)
+  key_told item h i e = by (key_record records m is heads are h (filter_in (λ k. not (is_tree_key k)) h heads i).0)
     where
       by : ObjectOf records m is h ⊎ TreeOf records m is h → (v : Value) × (get m.objects item ≡ Some v) × (told_of v ≡ object_listed h.class)
       by (inl o) =
@@ -136,18 +145,22 @@ module _ (records : List KeyedRecord) (heads : List KeyHead) (m : State) (are : 
             ap (get m.objects) (sym key) ∙ x.object,
             ap (λ (c : Option (List ℕ)). object_listed (unwrap_or c [])) read.class ∙ ap (λ (k : KeyHead). object_listed k.class) o.head_is,
           )
-      by (inr t) = absurd (no_tree t.r t.among)
+      by (inr t) =
+          let tree = (and_parts (is_tree_key t.r.head) _ (filter_in (is_tree_record (top_keys records)) t.r (top_keys records) t.among).1).0 in
+          let none = not-true _ (filter_in (λ k. not (is_tree_key k)) h heads i).1 in
+          let f : false ≡ true = sym none ∙ ap is_tree_key (sym t.head_is) ∙ tree in absurd cc
 
   -- and each object has one
-  object_key : (item : NameAndCycle) (v : Value) → get m.objects item ≡ Some v → (h : KeyHead) × In h heads × (has_key item h ≡ true)
+  object_key : (item : NameAndCycle) (v : Value) → get m.objects item ≡ Some v → (h : KeyHead) × In h objects × (has_key item h ≡ true)
   object_key item v e =
       let x = holder records m is item v e in
-      (x.r.head, record_key records m is heads are x.r x.among, item_same item x.r ∙ x.has)
+      let object = (filter_in (λ t. not (is_tree_key t.head)) x.r (top_keys records) x.among).1 in
+      (x.r.head, in_filter (λ k. not (is_tree_key k)) x.r.head heads (record_key records m is heads are x.r x.among) object, item_same item x.r ∙ x.has)
 
-  told_same : (item : NameAndCycle) → find_key item_order item (map told_by_key heads) ≡ option_map told_of (get m.objects item)
-  told_same item = by (found_in item heads) (get m.objects item) refl
+  told_same : (item : NameAndCycle) → find_key item_order item (map told_by_key objects) ≡ option_map told_of (get m.objects item)
+  told_same item = by (found_in item objects) (get m.objects item) refl
     where
-      by : FoundKey item heads → (o : Option Value) → get m.objects item ≡ o → find_key item_order item (map told_by_key heads) ≡ option_map told_of o
+      by : FoundKey item objects → (o : Option Value) → get m.objects item ≡ o → find_key item_order item (map told_by_key objects) ≡ option_map told_of o
       by (key_found h i e there) (Some v) held =
           let x = key_told item h i e in
           let same = same_Some x.0 v (sym x.1 ∙ held) in
@@ -157,14 +170,14 @@ module _ (records : List KeyedRecord) (heads : List KeyHead) (m : State) (are : 
       by (no_key none there) None held = there
 
   abbrev by_keys : List Told
-  by_keys = map told_by_key heads
+  by_keys = map told_by_key objects
 
   abbrev by_objects : List Told
   by_objects = map listed_object (entries m.objects)
 
-  lists_same : by_keys ≡ by_objects
+  pub lists_same : by_keys ≡ by_objects
   lists_same =
-      let one = true_is _ (heads_sorted heads are.ordered) in
+      let one = true_is _ (heads_sorted objects (order_kept (λ k. not (is_tree_key k)) heads are.ordered)) in
       let two = true_is _ (listed_sorted (entries m.objects) ∙ is_true _ (entries_sorted m.objects)) in
       let same = same_map items_total items_tie (from_sorted {R = item_order} by_keys) (from_sorted {R = item_order} by_objects) (λ item.
       get-from_sorted item_order by_keys item one
@@ -174,21 +187,37 @@ module _ (records : List KeyedRecord) (heads : List KeyHead) (m : State) (are : 
       ∙ sym (get-from_sorted item_order by_objects item two)) in
       sym (entries-from_sorted item_order by_keys one) ∙ ap entries same ∙ entries-from_sorted item_order by_objects two
 
-  none_under : (name : List ℕ) → get m.trees name ≡ None
-  none_under name = is.stand.trees name ∙ by (find_by (λ r. bytes_eq r.head.name name) (tree_records (top_keys records)))
-    where
-      by : (o : Option KeyedRecord) → option_and_then (tree_of (state_classes (info_key records)) records (tree_records (top_keys records))) o ≡ None
-      by None = refl
-      by (Some r) = no_tree_is_read (state_classes (info_key records)) records (tree_records (top_keys records)) r
+pub object_keys_stand : ObjectKeysStand
+object_keys_stand records heads m are is = lists_same records heads m are is
 
-  pub keys_stand : AreKeysOfState heads m
-  keys_stand = record {
-    objects = lists_same;
-    trees = same_map names_total names_tie m.trees empty (λ name. none_under name ∙ sym (get-empty name_order name));
-  }
+-- without trees no key is a tree's
+no_tree_keys : (records : List KeyedRecord) (heads : List KeyHead) (m : State) → AreKeysOf records heads → AreRecordsOf records m → m.trees ≡ empty → (h : KeyHead) → In h heads → is_tree_key h ≡ false
+no_tree_keys records heads m are is none h i = by (is_tree_key h) refl (key_record records m is heads are h i)
+  where
+    by : (b : Bool) → is_tree_key h ≡ b → ObjectOf records m is h ⊎ TreeOf records m is h → b ≡ false
+    by false e x = refl
+    by true e (inl o) =
+        let object = not-true _ (filter_in (λ t. not (is_tree_key t.head)) o.r (top_keys records) o.among).1 in
+        let f : false ≡ true = sym object ∙ ap is_tree_key o.head_is ∙ e in absurd cc
+    by true e (inr t) =
+        let named = any_from (λ k. is_tree_named t.r.head.name k) t.r (top_keys records) (filter_in (is_tree_record (top_keys records)) t.r (top_keys records) t.among).0
+        (and_from _ _ ((bytes_eq-Decides t.r.head.name t.r.head.name).1 refl) (ap is_tree_key t.head_is ∙ e)) in
+        let free = no_tree_named records (info_key records) (top_keys records) m is.stand t.r.head.name (ap (λ ts. is_some (get ts t.r.head.name)) none ∙ ap is_some (get-empty name_order t.r.head.name)) in
+        let f : false ≡ true = sym free ∙ named in absurd cc
 
+all_kept : (heads : List KeyHead) → ((h : KeyHead) → In h heads → is_tree_key h ≡ false) → object_keys heads ≡ heads
+all_kept [] none = refl
+all_kept (h ∷ hs) none =
+    let rest = all_kept hs (λ k i. none k (inr i)) in
+    let one : not (is_tree_key h) ≡ true = ap not (none h (inl refl)) in
+    ap (λ b. cond b (h ∷ object_keys hs) (object_keys hs)) one ∙ ap (λ (ks : List KeyHead). h ∷ ks) rest
+
+-- without trees all keys are those of objects
 pub keys_stand_for_state : KeysStandForState
-keys_stand_for_state records heads m are is = keys_stand records heads m are is
+keys_stand_for_state records heads m are is none = record {
+  objects = ap (map told_by_key) (sym (all_kept heads (no_tree_keys records heads m are is none))) ∙ object_keys_stand records heads m are is;
+  trees = none;
+}
 
 -- ---- the object of a key
 

@@ -1,12 +1,12 @@
 -- The keys beside a file tell what its close needs.
 use Rattle.std.proofs.Common.{◌≡◌, inl, inr, ⊎_elim, ℕ, ◌+◌, ◌*◌, ◌∙◌, codes, List, [], ◌∷◌, ◌++◌, length, map, Bool, true, false, not, Option, refl, sym, ap, subst, arith}
 use Rattle.std.proofs.{lemmas.Bool.{and_parts}, lemmas.List.{map-append, Sums.{sum_by-cons}}}
-use Rattle.std.specs.{List.{list_any, sum_by}, Option.{option_map_or}}
+use Rattle.std.specs.{List.{flat_map, list_any, sum_by}, Option.{option_map_or}}
 use Rattle.rio_key.specs.{Written.{written_key}, declared.head.KeyHead.{KeyHead}}
 use Rattle.rio_dir.proofs.TableOrder.{before_itself}
 use Rattle.rio_dir.specs.Table.{AreBehind, AreOrdered, comes_before}
 use Rattle.rio_machine.specs.{Limits.{head_length}, State.{State}}
-use Rattle.rio_state.specs.{Closing.{item_heads, kept_count, kept_in, name_in}, DirectoryKeys.{AreKeysOf}}
+use Rattle.rio_state.specs.{Closing.{item_heads, kept_count, kept_with, name_in}, Contents.{file_classes}, DirectoryKeys.{AreKeysOf}, TreeLengths.{put_among, save_lengths, trees_among}, Trees.{all_places_named}}
 use Rattle.rio_state.specs.KeyedRecords.{KeyedRecord, has_item, info_key, is_tree_key, is_tree_record, item_of_key, keyed_records, object_records, top_keys, tree_records}
 use Rattle.rio_state.specs.{Reads.{AreRecordsOf, are_distinct}, OneMore.{HasOneMoreIn}}
 use Rattle.rio_effect.specs.Laws.{NeedByKeys}
@@ -120,12 +120,17 @@ items_same records heads m are is f =
     same_sums f heads (item_heads (top_keys records)) (heads_apart heads are.ordered) (items_apart (top_keys records) is.stand.distinct) (heads_in records heads are) (items_in records heads are)
 
 pub need_by_keys : NeedByKeys
-unfolding kept_in
-need_by_keys links heads m are is =
+unfolding kept_with
+need_by_keys pending links heads m are is =
     let records = keyed_records links in
     let tops = top_keys records in
     let front = head_length (codes "TFile") (name_in records) in
     let same = items_same records heads m are is (λ (h : KeyHead). length (written_key h)) in
     let count = counted_same (info_key records) heads (item_heads tops) same.long in
     let sum = same.sum in
-    λ i. (front + 4 + sum i) ∷ (front + 10 * (count i + 2)) ∷ []
+    let headers = tree_records tops in
+    let classes = file_classes (info_key records) in
+    let trees = trees_among classes pending headers in
+    let opened = sum_by (λ t. length t.baskets) trees in
+    let beside = length (all_places_named classes headers) in
+    λ i. flat_map save_lengths trees ++ (front + 4 + sum i) ∷ (front + 10 * (count i + beside + put_among classes pending headers + opened + 2)) ∷ []

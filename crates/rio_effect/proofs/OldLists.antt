@@ -6,7 +6,7 @@ use Rattle.rio_free.specs.{Gaps.{HasGapFor}, declared.gap.Gap.{Gap}}
 use Rattle.rio_chain.specs.{Placing.{IsPlaceFor, gaps_in}, Segments.{GapAt, HoldsLinks, IsChain, Link, RecordAt, end_from, link_length, segment_of}}
 use Rattle.rio_chain.proofs.{Placed.{place_free}, PutChain.{map_end}, Words.{held_long}}
 use Rattle.rio_state.specs.KeyedRecords.{KeyedRecord, first_place, info_key, is_info_key, is_internal, is_tree_key, is_tree_record, keyed_records, later_info, top_keys}
-use Rattle.rio_state.specs.{Reads.{info_place}, Referred.{is_referred}}
+use Rattle.rio_state.specs.{Reads.{info_place}, Referred.{is_named_basket, is_referred}}
 use Rattle.rio_state.proofs.{LessRecords.{OwnRecord, first_internal, own_record, record_late, with_own}, Members.{In}, Stays.{not_info}}
 use Rattle.rio_effect.proofs.ClassEffect.{not_top}
 
@@ -57,6 +57,10 @@ list_is_later file (RecordAt p bytes ∷ links) r chain l =
 
 -- ---- places where a record can be put
 
+end_late : (p : ℕ) (links : List Link) → p ≤ end_from p links
+end_late p [] = omega arith
+end_late p (link ∷ links) = let le = end_late (p + link_length link) links in omega (arith, le)
+
 module _ (file : List ℕ) (place n : ℕ) where
   -- no gap among links stands before the first of them
   gap_late : (p : ℕ) (links : List Link) → HoldsLinks file p links → HasGapFor (gaps_in (map segment_of links)) place n → p ≤ place
@@ -82,10 +86,6 @@ module _ (file : List ℕ) (place n : ℕ) where
         omega (arith, at, late, holds.0.0, holds.0.1.some, ap (λ (g : Gap). g.place) is, fits.0)
     gap_apart p (GapAt q l ∷ links) holds i (suc k, x, lt, is, fits) at = gap_apart (p + l) links holds.1 i (k, x, omega (arith, lt), is, fits) at
 
-    end_late : (p : ℕ) (links : List Link) → p ≤ end_from p links
-    end_late p [] = omega arith
-    end_late p (link ∷ links) = let le = end_late (p + link_length link) links in omega (arith, le)
-
     before_end : (p : ℕ) (links : List Link) → HoldsLinks file p links → In r (keyed_records links) → r.head.seek < end_from p links
     before_end p [] holds i = absurd i
     before_end p (RecordAt q bytes ∷ links) holds i =
@@ -107,12 +107,17 @@ module _ (file : List ℕ) (place n : ℕ) where
         (λ end. let before = before_end 100 links chain.links_are i in let same = map_end 100 links in (λ is. omega (arith, is, end, before, same)))
         (place_free (map segment_of links) n place at)
 
+-- and it stands behind the first one's
+pub place_late : (file : List ℕ) (place n : ℕ) (links : List Link) → IsChain links file → IsPlaceFor (map segment_of links) n place → 100 ≤ place
+place_late file place n links chain at =
+    ⊎_elim (λ has. gap_late file place n 100 links chain.links_are has) (λ end. let late = end_late 100 links in let same = map_end 100 links in omega (arith, late, end, same)) (place_free (map segment_of links) n place at)
+
 -- ---- the new list
 
--- Nothing refers to a class list where another counts, which stands at another place.
+-- Nothing refers to a class list where another counts, which stands at another place, and no tree names its place.
 pub list_unreferred : (records : List KeyedRecord) (r s : KeyedRecord) → is_info_key s.head ≡ true → s.head.seek ≢ first_place → info_key records ≡ Some r → s.head.seek ≢ r.head.seek
-    → is_referred records s ≡ false
-list_unreferred records r s key late counts apart =
+    → is_named_basket records s ≡ false → is_referred records s ≡ false
+list_unreferred records r s key late counts apart unnamed =
     let first = ne_eqb s.head.seek first_place late in
     let info : (s.head.seek == info_place (info_key records)) ≡ false = ap (λ (o : Option KeyedRecord). s.head.seek == info_place o) counts ∙ ne_eqb s.head.seek r.head.seek apart in
-    or_from _ _ (or_from _ _ first info) (ap (λ b. b && (not (is_tree_key s.head) || is_tree_record (top_keys records) s)) (not_top s.head key))
+    or_from _ _ (or_from _ _ (or_from _ _ first info) (ap (λ b. b && (not (is_tree_key s.head) || is_tree_record (top_keys records) s)) (not_top s.head key))) unnamed

@@ -49,7 +49,7 @@ pub record IsObjectClass (class : List ℕ) : Type 0 where
   pub basket : bytes_eq class (codes "TBasket") ≡ false
   pub tree : bytes_eq class (codes "TTree") ≡ false
 
-short_name : (name : List ℕ) → is_name_text name ≡ true → length name ≤ 100
+pub short_name : (name : List ℕ) → is_name_text name ≡ true → length name ≤ 100
 short_name [] e = absurd cc
 short_name (b ∷ bs) e = leb-true _ _ (and_parts _ _ e).1
 

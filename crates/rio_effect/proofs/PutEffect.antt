@@ -10,11 +10,12 @@ use Rattle.rio_chain.specs.{Changes.{with_record}, Segments.{Link}}
 use Rattle.rio_model.specs.StateClasses.{StateClasses}
 use Rattle.rio_machine.specs.State.{State, next_cycle}
 use Rattle.rio_state.specs.Contents.{HasStateClasses, object_in, state_classes}
-use Rattle.rio_state.specs.KeyedRecords.{KeyedRecord, first_place, has_info_name, info_key, is_elsewhere, is_in_directory, is_internal, is_top_key, keyed_records, top_keys}
+use Rattle.rio_state.specs.KeyedRecords.{KeyedRecord, begins_at, first_place, has_info_name, info_key, is_elsewhere, is_in_directory, is_internal, is_top_key, keyed_records, top_keys}
 use Rattle.rio_state.specs.{Reads.{AreRecordsOf, StandsForState}, Closing.{padded_length}, OneMore.{HasOneMoreIn}}
 use Rattle.rio_chain.specs.Record.{key_size}
 use Rattle.rio_step.specs.{Costs.{value_size}, Refusing.{put_value}, Runs.{saved_of}}
-use Rattle.rio_effect.proofs.{WrittenLengths.{written_length}, FreeItems.{no_item, no_tree_named}, PutClasses.{IsObjectClass}}
+use Rattle.rio_effect.proofs.{FreeItems.{no_item, no_tree_named}, PutClasses.{IsObjectClass}}
+use Rattle.rio_tree.proofs.WrittenLengths.{written_length}
 use Rattle.rio_effect.proofs.{PutObject.{IsAccepted, accepted, object_read, own_class, new_record, put_record, words_fit}, SavedPuts.{puts_ignore_pending}}
 use Rattle.rio_step.proofs.StepLaws.{next_is_free}
 use Rattle.rio_effect.specs.Laws.{IsObjectKey, PutTakesEffect, PutsHaveRecords, SavedPutTakesEffect}
@@ -82,11 +83,11 @@ module _ (links : List Link) (m : State) (place datime : ℕ) (name : List ℕ) 
   pub tops_more : HasOneMoreIn (top_keys old) (top_keys new) r
   tops_more = filter_more (λ s. is_top_key s.head) r old new put_more put_key.top
 
-  pub put_stands : AreRecordsOf new (record m { objects = insert m.objects (name, next_cycle m name) (put_value m v) })
-  put_stands =
+  pub put_stands : begins_at old place ≡ false → AreRecordsOf new (record m { objects = insert m.objects (name, next_cycle m name) (put_value m v) })
+  put_stands free =
       let info = info_same old new r put_more put_key.other in
       let after : State = record m { objects = insert m.objects (name, next_cycle m name) (put_value m v) } in
-      let stand : StandsForState new (info_key old) (top_keys new) after = object_stands old new r (info_key old) (top_keys old) (top_keys new) m (put_value m v) put_more tops_more put_is_new is.stand in
+      let stand : StandsForState new (info_key old) (top_keys new) after = object_stands old new r (info_key old) (top_keys old) (top_keys new) m (put_value m v) put_more free tops_more put_is_new is.stand in
       record {
         here = all_more (λ s. not (is_elsewhere s.head)) r old new put_more (ap not put_key.here) is.here;
         stand = subst (λ (o : Option KeyedRecord). StandsForState new o (top_keys new) after) (sym info) stand;
@@ -114,10 +115,10 @@ puts_have_records m place datime name v mark low soon are named e =
     }
 
 pub put_takes_effect : PutTakesEffect
-put_takes_effect links m place datime name v mark low soon is named e = put_stands links m place datime name v low soon is named (accepted m name v mark e)
+put_takes_effect links m place datime name v mark low soon free is named e = put_stands links m place datime name v low soon is named (accepted m name v mark e) free
 
 -- the same of the state without its pending rows
 pub saved_put_takes_effect : SavedPutTakesEffect
 unfolding saved_of
-saved_put_takes_effect links m place datime name v mark low soon is named e =
-    put_takes_effect links (saved_of m) place datime name v mark low soon is named ((puts_ignore_pending m name v).refused mark ∙ e)
+saved_put_takes_effect links m place datime name v mark low soon free is named e =
+    put_takes_effect links (saved_of m) place datime name v mark low soon free is named ((puts_ignore_pending m name v).refused mark ∙ e)

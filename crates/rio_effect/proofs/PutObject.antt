@@ -21,7 +21,7 @@ use Rattle.rio_step.proofs.{ApartLaws.{none_at, not_refused}, FitStays.{unrefuse
 use Rattle.rio_step.specs.Refusing.{FullMark, goes_too_deep, has_too_many, is_at_last_cycle, is_list_name, is_too_large, is_tree_name, lacks_class, object_class, object_class_name, put_value, refusal_of, refusals}
 use Rattle.rio_effect.specs.ObjectRecord.{data_of_put, words_of_put}
 use Rattle.rio_effect.proofs.{PutClasses.{IsObjectClass, object_class_is, short_item, versions_in_range}, Versions.{fits_in_versions}}
-use Rattle.rio_effect.proofs.WrittenLengths.{written_length}
+use Rattle.rio_tree.proofs.WrittenLengths.{written_length}
 
 -- ---- what an accepted put knows
 

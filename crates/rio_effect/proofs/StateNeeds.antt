@@ -1,7 +1,7 @@
 -- What a close needs by the objects of the state.
-use Rattle.std.proofs.Common.{◌≡◌, ◌⊎◌, inl, inr, ℕ, ◌+◌, ◌*◌, ◌≤◌, ◌∙◌, List, [], ◌∷◌, ◌++◌, length, map, Bool, false, not, ltb, ◌==◌, refl, sym, ap, subst, arith}
+use Rattle.std.proofs.Common.{◌≡◌, ◌⊎◌, inl, inr, ℕ, ◌+◌, ◌*◌, ◌≤◌, ◌∙◌, List, [], ◌∷◌, ◌++◌, length, map, Bool, true, false, cond, not, ltb, ◌==◌, refl, sym, ap, subst, arith}
 use Rattle.std.proofs.{lemmas.Bool.{and_parts, le-ltb}, lemmas.List.{length-append, length-map, Sums.{sum_by-cons}}}
-use Rattle.std.specs.{Prelude.{if◌then◌else◌}, FinMap.{entries}, Int.{w32, cast_unsigned}, List.{sum_by}, Option.{option_map_or}}
+use Rattle.std.specs.{Prelude.{if◌then◌else◌}, FinMap.{entries}, Int.{w32, cast_unsigned}, List.{sum_by}}
 use Rattle.byteorder.specs.{Endian.{big_bytes}, Numbers.{length-bytes_high_first}}
 use Rattle.rio_num.specs.{Text.{text_bytes}, At.{place_len_of}}
 use Rattle.rio_num.proofs.Cases.{nothing_left}
@@ -9,12 +9,12 @@ use Rattle.rio_value.specs.declared.value.Value.{Value}
 use Rattle.rio_key.specs.{Written.{number_bytes, written_key}, declared.head.KeyHead.{KeyHead}}
 use Rattle.rio_chain.specs.Segments.{IsChain, Link}
 use Rattle.rio_machine.specs.{Limits.{head_length}, State.{NameAndCycle, State}}
-use Rattle.rio_state.specs.{Closing.{item_heads, kept_in}, DirectoryKeys.{AreKeysOf}}
-use Rattle.rio_state.specs.KeyedRecords.{KeyedRecord, info_key, is_top_key, is_tree_key, is_tree_record, keyed_records, top_keys}
+use Rattle.rio_state.specs.{Closing.{item_heads, kept_with}, DirectoryKeys.{AreKeysOf}}
+use Rattle.rio_state.specs.KeyedRecords.{KeyedRecord, is_top_key, is_tree_key, is_tree_record, keyed_records, top_keys}
 use Rattle.rio_state.specs.Reads.{AreRecordsOf, is_named_key}
 use Rattle.rio_step.specs.{ItemKeys.{told_by_key}, Step.{Listed, listed_object, object_listed, tree_listed}}
-use Rattle.rio_effect.specs.Laws.{NeedOfState, listed_length}
-use Rattle.rio_effect.proofs.{KeyReads.{placed}, KeysOfState.{Told, keys_stand}, NeedsByKeys.{items_same}}
+use Rattle.rio_effect.specs.Laws.{NeedOfState, listed_length, object_keys}
+use Rattle.rio_effect.proofs.{KeyReads.{placed}, KeysOfState.{Told, object_keys_stand}, NeedsByKeys.{items_same}}
 use Rattle.rio_state.proofs.{KeyRecords.{ObjectOf, TreeOf, key_record}, Members.{In, all_at, filter_in}}
 
 -- ---- the length of a head
@@ -85,25 +85,50 @@ module _ (file : List ℕ) (links : List Link) (heads : List KeyHead) (m : State
       by (inl o) = subst (λ (k : KeyHead). length (written_key k) ≡ head_length k.class k.name) o.head_is (top_long o.r (filter_in (λ t. not (is_tree_key t.head)) o.r (top_keys records) o.among).0)
       by (inr t) = subst (λ (k : KeyHead). length (written_key k) ≡ head_length k.class k.name) t.head_is (top_long t.r (filter_in (is_tree_record (top_keys records)) t.r (top_keys records) t.among).0)
 
-  state_heads : sum_by (λ h. length (written_key h)) (item_heads (top_keys records)) ≡ sum_by listed_length (entries m.objects)
-  state_heads =
-      let stand = keys_stand records heads m are is in
-      sym (items_same records heads m are is (λ h. length (written_key h))).sum
-      ∙ sum_told (λ h. length (written_key h)) heads key_long
-      ∙ ap (sum_by told_length) stand.objects
+  -- the keys of the file's objects, in whatever order
+  abbrev listed : List KeyHead
+  listed = item_heads (top_keys records)
+
+  objects_long : sum_by (λ h. length (written_key h)) (object_keys heads) ≡ sum_by listed_length (entries m.objects)
+  objects_long =
+      sum_told (λ h. length (written_key h)) (object_keys heads) (λ h i. key_long h (filter_in (λ k. not (is_tree_key k)) h heads i).0)
+      ∙ ap (sum_by told_length) (object_keys_stand records heads m are is)
       ∙ sum_listed (entries m.objects)
 
-  state_count : length (item_heads (top_keys records)) ≡ length (entries m.objects)
+  -- one if it is an object's
+  abbrev counted : (KeyHead → ℕ) → KeyHead → ℕ
+  counted f h = if not (is_tree_key h) then f h else 0
+
+  filtered_sum : (f : KeyHead → ℕ) (hs : List KeyHead) → sum_by f (object_keys hs) ≡ sum_by (counted f) hs
+  filtered_sum f [] = refl
+  filtered_sum f (h ∷ hs) = by (not (is_tree_key h)) (filtered_sum f hs) ∙ sym (sum_by-cons (counted f) h hs)
+    where
+      by : (b : Bool) → sum_by f (object_keys hs) ≡ sum_by (counted f) hs → sum_by f (cond b (h ∷ object_keys hs) (object_keys hs)) ≡ (if b then f h else 0) + sum_by (counted f) hs
+      by true rest = sum_by-cons f h (object_keys hs) ∙ ap (λ (n : ℕ). f h + n) rest
+      by false rest = rest ∙ omega arith
+
+  same_objects : (f : KeyHead → ℕ) → sum_by f (object_keys listed) ≡ sum_by f (object_keys heads)
+  same_objects f = filtered_sum f listed ∙ sym (items_same records heads m are is (counted f)).sum ∙ sym (filtered_sum f heads)
+
+  count_is : (hs : List KeyHead) → length hs ≡ sum_by (λ h. 1) hs
+  count_is [] = refl
+  count_is (h ∷ hs) = let rest = count_is hs in let one = sum_by-cons (λ (k : KeyHead). 1) h hs in omega (arith, rest, one)
+
+  state_heads : sum_by (λ h. length (written_key h)) (object_keys listed) ≡ sum_by listed_length (entries m.objects)
+  state_heads = same_objects (λ h. length (written_key h)) ∙ objects_long
+
+  state_count : length (object_keys listed) ≡ length (entries m.objects)
   state_count =
-      let stand = keys_stand records heads m are is in
-      sym (items_same records heads m are is (λ h. length (written_key h))).long
-      ∙ sym (length-map heads told_by_key)
-      ∙ ap length stand.objects
+      count_is (object_keys listed)
+      ∙ same_objects (λ h. 1)
+      ∙ sym (count_is (object_keys heads))
+      ∙ sym (length-map (object_keys heads) told_by_key)
+      ∙ ap length (object_keys_stand records heads m are is)
       ∙ length-map (entries m.objects) listed_object
 
 pub need_of_state : NeedOfState
-unfolding kept_in
-need_of_state file links heads m chain are is = record {
+unfolding kept_with
+need_of_state pending file links heads m chain are is = record {
   heads = state_heads file links heads m chain are is;
-  count = ap (λ (n : ℕ). 1 + option_map_or (λ r. 1) (info_key (keyed_records links)) 0 + n) (state_count file links heads m chain are is);
+  count = state_count file links heads m chain are is;
 }

@@ -68,7 +68,7 @@ module _ (classes : List ClassDef) (class : List ℕ) (version : ℤ) (all : are
 
 module _ (classes : List ClassDef) (all : are_in_range classes ≡ true) where
   -- wherever it fits, its versions can be written
-  abbrev Ranged : Value → Type 0
+  abbrev pub Ranged : Value → Type 0
   Ranged v = (slot : Slot) (labels after : Labels) → (fitting_of classes v).fits slot labels ≡ Some after → has_versions v ≡ true
 
   abbrev all_ranged : List Value → Bool
@@ -146,7 +146,7 @@ module _ (classes : List ClassDef) (all : are_in_range classes ≡ true) where
       let fit : pointed_fits classes label (fitting_of classes object) (fitting_of classes object).class slot labels ≡ Some after = ap (λ (f : Fitting). f.fits slot labels) (sym is) ∙ e in
       fold_Pointed versions_step (λ p. p.value) label object ∙ pointed_by label object known (fitting_of classes object).class slot labels after fit
 
-  ranged : (v : Value) → Ranged v
+  pub ranged : (v : Value) → Ranged v
   ranged = by_cases Ranged (record {
     int = λ z slot labels after e. fold_Int versions_step (λ p. p.value) z;
     bits32 = λ n slot labels after e. fold_Bits32 versions_step (λ p. p.value) n;

@@ -6,7 +6,7 @@ use Rattle.rio_key.specs.declared.head.KeyHead.{KeyHead}
 use Rattle.rio_machine.specs.{State.{NameAndCycle, State, names_tree, next_cycle}, declared.command.Command.{Command, TheVariants.{Delete}}}
 use Rattle.rio_dir.specs.Table.{greatest_cycle, head_of, without_head}
 use Rattle.rio_chain.specs.Segments.{IsChain, Link}
-use Rattle.rio_state.specs.{Closing.{KeptRecords, kept_in}, DirectoryKeys.{AreKeysOf}}
+use Rattle.rio_state.specs.{Closing.{KeptRecords, kept_with}, DirectoryKeys.{AreKeysOf}, TreeLengths.{PendingRows}}
 use Rattle.rio_state.specs.{KeyedRecords.{KeyedRecord, keyed_records}, OneLess.{HasRecord, NeedsNoMore, links_without}, OneMore.{HasOneMoreIn}, Reads.{AreRecordsOf}}
 use Rattle.rio_step.specs.{Costs.{cost_of}, Refusing.{FullMark, refusal_of}, Runs.{saved_of}, Step.{state_behind}}
 use Rattle.rio_effect.specs.{FileRuns.{item_record}, Laws.{IsObjectKey}}
@@ -77,18 +77,21 @@ DeleteLeavesOthers = (file : List ℕ) (links : List Link) (m : State) (heads : 
 
 -- ---- what a file keeps
 
--- one key less, and so one record less
+-- one key less, and so one record less; the trees stay
 pub record KeepsOneLess (old new : KeptRecords) (head : KeyHead) : Type 0 where
   pub name : new.name ≡ old.name
   pub heads : HasOneMoreIn new.heads old.heads head
   pub count : new.count + 1 ≡ old.count
+  pub trees : new.trees ≡ old.trees
 
 abbrev pub DeleteKeepsLess : Type 0
-DeleteKeepsLess = (file : List ℕ) (links : List Link) (r : KeyedRecord) → HasObject file links r → KeepsOneLess (kept_in links) (kept_in (links_without links r)) r.head
+DeleteKeepsLess = (pending : PendingRows) (file : List ℕ) (links : List Link) (r : KeyedRecord) → HasObject file links r
+    → KeepsOneLess (kept_with pending links) (kept_with pending (links_without links r)) r.head
 
 -- a close needs no more, nor does the file hold more
 abbrev pub DeleteNeedsNoMore : Type 0
-DeleteNeedsNoMore = (file : List ℕ) (links : List Link) (r : KeyedRecord) → HasObject file links r → NeedsNoMore links (links_without links r)
+DeleteNeedsNoMore = (pending : PendingRows) (file : List ℕ) (links : List Link) (r : KeyedRecord) → HasObject file links r
+    → NeedsNoMore pending links (links_without links r)
 
 -- ---- by the records of the file
 

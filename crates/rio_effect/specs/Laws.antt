@@ -1,6 +1,6 @@
 -- What the record of a put makes of what a file reads as, of the keys that are kept beside it, and of what its close needs.
-use Rattle.std.specs.{Prelude.{◌≡◌, ◌<◌, ◌≤◌, ℕ, ◌+◌, ◌^◌, List, [], drop, length, map, true, false, Option, Some, None, Ok, unwrap_or}, FinMap.{entries, get}}
-use Rattle.std.specs.{List.{Contains, find, sum_by}, Option.{option_map_or}}
+use Rattle.std.specs.{Prelude.{◌≡◌, ◌<◌, ◌≤◌, ℕ, ◌+◌, ◌^◌, List, [], drop, length, map, not, true, false, Option, Some, None, Ok, unwrap_or}, FinMap.{empty, entries, get}}
+use Rattle.std.specs.{List.{Contains, filter, find, sum_by}}
 use Rattle.rio_num.specs.Word.{is_item_text}
 use Rattle.rio_value.specs.declared.value.Value.{Value}
 use Rattle.rio_format.specs.Objects.{value_at}
@@ -11,11 +11,11 @@ use Rattle.rio_machine.specs.{Limits.{head_length}, State.{NameAndCycle, State, 
 use Rattle.rio_dir.specs.Table.{greatest_cycle, is_at_cycle, with_head}
 use Rattle.rio_chain.specs.{Changes.{with_record}, Placing.{IsPlaceFor}, Segments.{IsChain, IsRecord, Link, RecordAt, segment_of}, Stops.{KeepsFront}}
 use Rattle.rio_chain.specs.Record.{FitsWords}
-use Rattle.rio_state.specs.{Closing.{KeptRecords, closing_lengths, held_of, kept_count, kept_in, name_in, padded_length}, DirectoryKeys.{AreKeysOf}}
-use Rattle.rio_state.specs.KeyedRecords.{KeyedRecord, info_key, is_elsewhere, is_info_key, is_top_key, is_tree_key, keyed_records}
+use Rattle.rio_state.specs.{Closing.{KeptRecords, closing_lengths, held_with, kept_of, kept_with, name_in, padded_length}, DirectoryKeys.{AreKeysOf}, TreeLengths.{PendingRows}}
+use Rattle.rio_state.specs.KeyedRecords.{KeyedRecord, begins_at, info_key, is_elsewhere, is_info_key, is_top_key, is_tree_key, keyed_records, top_keys, tree_records}
 use Rattle.rio_state.specs.{Reads.{AreRecordsOf, ReadsAsMade, ReadsAsState}, OneMore.{KeyIsRead}}
-use Rattle.rio_step.specs.{Costs.{cost_of, value_size}, ItemKeys.{AreKeysOfState}, Refusing.{FullMark, object_class, put_value, refusal_of}, Runs.{saved_of}}
-use Rattle.rio_step.specs.Step.{state_behind}
+use Rattle.rio_step.specs.{Costs.{cost_of, value_size}, ItemKeys.{AreKeysOfState, told_by_key}, Refusing.{FullMark, object_class, put_value, refusal_of}, Runs.{saved_of}}
+use Rattle.rio_step.specs.Step.{listed_object, state_behind}
 use Rattle.rio_effect.specs.{More.{KeepsOneMore}, ObjectRecord.{data_of_put, key_of_put, record_of_put, words_of_put}}
 
 -- ---- what the records stand for
@@ -42,10 +42,10 @@ abbrev pub PutsHaveRecords : Type 0
 PutsHaveRecords = (m : State) (place datime : ℕ) (name : List ℕ) (v : Value) (mark : Option FullMark) → place < 2 ^ 32 → datime < 2 ^ 32
     → StateClasses m.classes → is_item_text name ≡ true → refusal_of m (Put name v) mark ≡ None → IsPutRecord m place datime name v
 
--- with the record of an object that a put adds the records stand for the state behind the put
+-- with the record of an object that a put adds, at a place where no record begins, the records stand for the state behind the put
 abbrev pub PutTakesEffect : Type 0
 PutTakesEffect = (links : List Link) (m : State) (place datime : ℕ) (name : List ℕ) (v : Value) (mark : Option FullMark) → place < 2 ^ 32 → datime < 2 ^ 32
-    → AreRecordsOf (keyed_records links) m → is_item_text name ≡ true → refusal_of m (Put name v) mark ≡ None
+    → begins_at (keyed_records links) place ≡ false → AreRecordsOf (keyed_records links) m → is_item_text name ≡ true → refusal_of m (Put name v) mark ≡ None
     → AreRecordsOf (keyed_records (with_record place (record_of_put m place datime name v) links)) (state_behind m (Put name v))
 
 -- A put doesn't look at pending rows: it is refused or not, and adds the same object, in the state without them.
@@ -62,7 +62,7 @@ PutsIgnorePending = (m : State) (name : List ℕ) (v : Value) → IsPutAlike m n
 -- the same of states of which a stop leaves all but the pending rows
 abbrev pub SavedPutTakesEffect : Type 0
 SavedPutTakesEffect = (links : List Link) (m : State) (place datime : ℕ) (name : List ℕ) (v : Value) (mark : Option FullMark) → place < 2 ^ 32 → datime < 2 ^ 32
-    → AreRecordsOf (keyed_records links) (saved_of m) → is_item_text name ≡ true → refusal_of m (Put name v) mark ≡ None
+    → begins_at (keyed_records links) place ≡ false → AreRecordsOf (keyed_records links) (saved_of m) → is_item_text name ≡ true → refusal_of m (Put name v) mark ≡ None
     → AreRecordsOf (keyed_records (with_record place (record_of_put m place datime name v) links)) (saved_of (state_behind m (Put name v)))
 
 -- ---- the keys beside a file
@@ -88,9 +88,21 @@ SavedPutKeyFollows = (links : List Link) (m : State) (heads : List KeyHead) (pla
     → AreRecordsOf (keyed_records links) (saved_of m) → is_item_text name ≡ true → refusal_of m (Put name v) mark ≡ None → AreKeysOf (keyed_records links) heads
     → AreKeysOf (keyed_records (with_record place (record_of_put m place datime name v) links)) (with_head (key_of_put m place datime name v) heads)
 
--- the keys of a file stand for the objects of the state that its records stand for
+-- the keys of objects among some keys, and those of trees
+abbrev pub object_keys : List KeyHead → List KeyHead
+object_keys heads = filter (λ h. not (is_tree_key h)) heads
+
+abbrev pub tree_keys : List KeyHead → List KeyHead
+tree_keys heads = filter is_tree_key heads
+
+-- the keys of objects, in their order, tell what is listed of the objects of the state that a file's records stand for
+abbrev pub ObjectKeysStand : Type 0
+ObjectKeysStand = (records : List KeyedRecord) (heads : List KeyHead) (m : State) → AreKeysOf records heads → AreRecordsOf records m
+    → map told_by_key (object_keys heads) ≡ map listed_object (entries m.objects)
+
+-- the keys of a file stand for the objects of the state that its records stand for, where it has no trees
 abbrev pub KeysStandForState : Type 0
-KeysStandForState = (records : List KeyedRecord) (heads : List KeyHead) (m : State) → AreKeysOf records heads → AreRecordsOf records m → AreKeysOfState heads m
+KeysStandForState = (records : List KeyedRecord) (heads : List KeyHead) (m : State) → AreKeysOf records heads → AreRecordsOf records m → m.trees ≡ empty → AreKeysOfState heads m
 
 -- each key is that of an object of the state
 abbrev pub KeysNameObjects : Type 0
@@ -115,39 +127,40 @@ KeysHaveRecords = (file : List ℕ) (links : List Link) (heads : List KeyHead) (
 
 -- one object more is one more that the file keeps
 abbrev pub NeedGrows : Type 0
-NeedGrows = (file : List ℕ) (links : List Link) (place : ℕ) (bytes : List ℕ) (head : KeyHead) → IsChain links file → KeyIsRead place bytes head → is_top_key head ≡ true → is_tree_key head ≡ false
-    → KeepsOneMore (kept_in links) (kept_in (with_record place bytes links)) head
+NeedGrows = (pending : PendingRows) (file : List ℕ) (links : List Link) (place : ℕ) (bytes : List ℕ) (head : KeyHead) → IsChain links file → KeyIsRead place bytes head → is_top_key head ≡ true → is_tree_key head ≡ false
+    → KeepsOneMore (kept_with pending links) (kept_with pending (with_record place bytes links)) head
 
--- what a file keeps, with the keys as they are kept beside it
-abbrev pub kept_by_keys : List Link → List KeyHead → KeptRecords
-kept_by_keys links heads =
-    record { name = name_in (keyed_records links); heads = heads; count = kept_count (info_key (keyed_records links)) heads }
+-- what a file keeps with these rows pending, with the keys as they are kept beside it
+abbrev pub kept_by_keys : PendingRows → List Link → List KeyHead → KeptRecords
+kept_by_keys pending links heads =
+    let records = keyed_records links in
+    kept_of pending (name_in records) (info_key records) heads (tree_records (top_keys records))
 
 -- a close writes as much by these keys
 abbrev pub NeedByKeys : Type 0
-NeedByKeys = (links : List Link) (heads : List KeyHead) (m : State) → AreKeysOf (keyed_records links) heads → AreRecordsOf (keyed_records links) m
-    → closing_lengths (kept_by_keys links heads) ≡ closing_lengths (kept_in links)
+NeedByKeys = (pending : PendingRows) (links : List Link) (heads : List KeyHead) (m : State) → AreKeysOf (keyed_records links) heads → AreRecordsOf (keyed_records links) m
+    → closing_lengths (kept_by_keys pending links heads) ≡ closing_lengths (kept_with pending links)
 
 -- how long the head of an object is in the key list
 abbrev pub listed_length : NameAndCycle × Value → ℕ
 listed_length e = head_length (unwrap_or (object_class e.1) []) e.0.0
 
--- what a file keeps, by the state that it stands for: a head for each object, and a record for each
-pub record IsKeptOfState (kept : KeptRecords) (info : Option KeyedRecord) (m : State) : Type 0 where
-  pub heads : sum_by (λ h. length (written_key h)) kept.heads ≡ sum_by listed_length (entries m.objects)
-  pub count : kept.count ≡ 1 + option_map_or (λ r. 1) info 0 + length (entries m.objects)
+-- What a file keeps, by the state that it stands for: a head for each object. The heads of trees, and their records, come beside these.
+pub record IsKeptOfState (kept : KeptRecords) (m : State) : Type 0 where
+  pub heads : sum_by (λ h. length (written_key h)) (object_keys kept.heads) ≡ sum_by listed_length (entries m.objects)
+  pub count : length (object_keys kept.heads) ≡ length (entries m.objects)
 
--- a close writes as much by the state (no file has a tree yet)
+-- a close lists as many objects, in as many bytes, as the state has
 abbrev pub NeedOfState : Type 0
-NeedOfState = (file : List ℕ) (links : List Link) (heads : List KeyHead) (m : State) → IsChain links file → AreKeysOf (keyed_records links) heads → AreRecordsOf (keyed_records links) m
-    → IsKeptOfState (kept_in links) (info_key (keyed_records links)) m
+NeedOfState = (pending : PendingRows) (file : List ℕ) (links : List Link) (heads : List KeyHead) (m : State) → IsChain links file → AreKeysOf (keyed_records links) heads
+    → AreRecordsOf (keyed_records links) m → IsKeptOfState (kept_with pending links) m
 
 -- The record of a put's object, at the place of the rule, raises what the file holds by no more than the put's cost.
 abbrev pub HeldGrows : Type 0
-HeldGrows = (file : List ℕ) (links : List Link) (m : State) (place datime : ℕ) (name : List ℕ) (v : Value) → place < 2 ^ 32 → datime < 2 ^ 32
+HeldGrows = (pending : PendingRows) (file : List ℕ) (links : List Link) (m : State) (place datime : ℕ) (name : List ℕ) (v : Value) → place < 2 ^ 32 → datime < 2 ^ 32
     → IsChain links file → IsPlaceFor (map segment_of links) (length (record_of_put m place datime name v)) place
     → StateClasses m.classes → is_item_text name ≡ true → refusal_of m (Put name v) None ≡ None
-    → held_of (with_record place (record_of_put m place datime name v) links) ≤ held_of links + cost_of m (Put name v)
+    → held_with pending (with_record place (record_of_put m place datime name v) links) ≤ held_with pending links + cost_of m (Put name v)
 
 -- ---- files
 

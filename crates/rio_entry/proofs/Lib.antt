@@ -7,9 +7,14 @@ pub mod Counting
 pub mod EntriesStay
 pub mod EntryLaws
 pub mod FirstRefusals
+pub mod FitsBehind
 pub mod FittingRows
+pub mod HeadOrder
+pub mod HeldRows
 pub mod IndexLaws
 pub mod KeptEntries
+pub mod KeySearch
+pub mod KeyedLaws
 pub mod LastNumbers
 pub mod LeafBytes
 pub mod LeafKinds
@@ -23,6 +28,8 @@ pub mod ObjectNumbers
 pub mod PutValues
 pub mod RowLaws
 pub mod RowReads
+pub mod SavedLaws
+pub mod SavedTrees
 pub mod Singles
 pub mod SweepLaws
 pub mod SweepSteps

@@ -5,7 +5,9 @@ pub mod Counted
 pub mod Counters
 pub mod Counting
 pub mod Entries
+pub mod Fitting
 pub mod Growth
+pub mod HeldLanes
 pub mod Index
 pub mod Lanes
 pub mod Laws
@@ -14,7 +16,7 @@ pub mod Reading
 pub mod Refusals
 pub mod RowFaults
 pub mod Rows
+pub mod SavedRows
 pub mod StoredEntries
 pub mod Sweeps
 pub mod TreeCounters
-pub mod TreeRecords

@@ -44,7 +44,8 @@ fn bits64_fits(of: Prim, bits: u64) -> bool
     matches!(of, Prim::F64)
 }
 
-fn single_fits(of: Prim, value: &Value) -> bool
+/// Whether it is a value of the kind.
+pub(crate) fn single_fits(of: Prim, value: &Value) -> bool
     ensures { result ≡ single_fits of value.now }
 {
     match value {
@@ -62,7 +63,8 @@ fn all_fit(of: Prim, values: &[Value]) -> bool
     values.iter().all(|value| single_fits(of, value))
 }
 
-fn list_fits(of: Prim, n: u128, value: &Value) -> bool
+/// Whether it is a list of so many values of the kind.
+pub(crate) fn list_fits(of: Prim, n: u128, value: &Value) -> bool
     ensures { (count : ℕ) → n ≡ min count most_values
         → result ≡ kind_fits (Fixed of count) value.now }
 {
@@ -72,8 +74,8 @@ fn list_fits(of: Prim, n: u128, value: &Value) -> bool
     }
 }
 
-// Whether the value is a list of so many values for each that was counted.
-fn counted_fits(of: Prim, times: u32, count: i128, value: &Value) -> bool
+/// Whether the value is a list of so many values for each that was counted.
+pub(crate) fn counted_fits(of: Prim, times: u32, count: i128, value: &Value) -> bool
     ensures { result ≡ kind_fits (counted_leaf_kind of times (Some count)) value.now }
 {
     if count < 0 {

@@ -2,6 +2,7 @@
 ghost use Rattle.rio_entry.specs.Growth.{EntryStays, FittingRowStays, SpelledEntryStays};
 ghost use Rattle.rio_entry.specs.Laws.{EntriesHaveOneAnswer, EntryIsPartOfRow, WrittenEntriesAreRead};
 ghost use Rattle.rio_entry.specs.Rows.{BrokenRowsHaveABranch, WrittenRowsAreRead};
+ghost use Rattle.rio_entry.specs.SavedRows.{ReadHeadsAreInOrder};
 
 /// The bytes of an entry spell values or break at a place, never both, and in one way.
 pub fn entries_have_one_answer()
@@ -37,4 +38,9 @@ pub fn rows_stay_read()
     ensures entry { EntryStays }
     ensures spelled { SpelledEntryStays }
     ensures row { FittingRowStays }
+{}
+
+/// Where a header that is read doesn't refuse a branch, this has the tree's entries and its baskets stand in order.
+pub fn read_heads_are_in_order()
+    ensures { ReadHeadsAreInOrder }
 {}

@@ -32,6 +32,7 @@ mod checked;
 mod counter;
 mod counts;
 mod fit;
+mod fitting;
 mod index;
 mod lane;
 mod laws;
@@ -41,10 +42,12 @@ mod part;
 mod put;
 mod read;
 mod read_leaves;
+mod records;
 mod refusals;
 mod row;
 mod row_reader;
 mod said_numbers;
+mod saved;
 mod stored;
 mod tree_counters;
 mod tree_row;
@@ -53,11 +56,12 @@ mod write;
 pub use check::{check_entry, check_entry_with};
 pub use checked::Made;
 pub use counter::LeafCounters;
+pub use fitting::{row_fits, value_count};
 pub use index::basket_from;
 pub use lane::{Lane, RowFault};
 pub use laws::{
-    broken_rows_have_a_branch, entries_have_one_answer, entry_is_part_of_row, rows_stay_read,
-    written_entries_are_read, written_rows_are_read,
+    broken_rows_have_a_branch, entries_have_one_answer, entry_is_part_of_row,
+    read_heads_are_in_order, rows_stay_read, written_entries_are_read, written_rows_are_read,
 };
 pub use numbers::{Numbers, leaf_counts, note_leaves};
 pub use part::RowPart;
@@ -67,6 +71,7 @@ pub use rio_machine::EntryFault;
 pub use row::{broken_branch, read_row};
 pub use row_reader::{FileTree, read_tree_row};
 pub use said_numbers::{entry_numbers, entry_numbers_with};
+pub use saved::{are_rows_saved, read_saved_row};
 pub use stored::FoundBasket;
 pub use tree_counters::TreeCounters;
 pub use tree_row::{BranchRefusals, BranchRows, TreeRow};

@@ -16,8 +16,12 @@ use std::collections::BTreeMap;
 /// What the nearest leaf of each name says. The names are those of the leaves.
 pub type Numbers<'a> = BTreeMap<&'a [u8], i128>;
 
-// The name leads to the number from now on.
-fn put_number<'a>(numbers: &mut Numbers<'a>, name: &'a [u8], said: i128) -> Result<(), NoMemory>
+/// The name leads to the number from now on.
+pub(crate) fn put_number<'a>(
+    numbers: &mut Numbers<'a>,
+    name: &'a [u8],
+    said: i128,
+) -> Result<(), NoMemory>
     ensures { OnOk result
         ((q : List ℕ) →
         number_by_name numbers.new q
@@ -61,10 +65,17 @@ pub(crate) fn note_values<'a>(
     }
 }
 
+/// What the nearest leaf of the name says, if there is one.
+pub(crate) fn number_said(numbers: &Numbers, name: &[u8]) -> Option<i128>
+    ensures { result ≡ number_by_name numbers.now name.now }
+{
+    numbers.get(name).copied()
+}
+
 fn count_said(numbers: &Numbers, name: &[u8]) -> i128
     ensures { result ≡ unwrap_or (number_by_name numbers.now name.now) (pos 0) }
 {
-    numbers.get(name).copied().unwrap_or(0)
+    number_said(numbers, name).unwrap_or(0)
 }
 
 fn count_of(numbers: &Numbers, dim: &Dim) -> i128

@@ -75,8 +75,8 @@ fn is_compressed(found: &FoundBasket) -> bool
     }
 }
 
-// The basket's entries go from its first one up to this one.
-fn is_filled(at: &BasketAt, behind: u64, found: &FoundBasket) -> bool
+/// The basket's entries go from its first one up to this one.
+pub(crate) fn is_filled(at: &BasketAt, behind: u64, found: &FoundBasket) -> bool
     ensures { result ≡ is_filled at.now behind found.now }
 {
     match found {
@@ -85,8 +85,8 @@ fn is_filled(at: &BasketAt, behind: u64, found: &FoundBasket) -> bool
     }
 }
 
-// The entry behind those of the basket at `k`.
-fn entry_behind(baskets: &[BasketAt], k: usize, entries: u64) -> u64
+/// The entry behind those of the basket at `k`.
+pub(crate) fn entry_behind(baskets: &[BasketAt], k: usize, entries: u64) -> u64
     requires { k < length baskets.now }
     ensures { result ≡ entry_behind (drop (k + 1) baskets.now) entries }
 {

@@ -9,3 +9,4 @@ mod records;
 mod recovery;
 mod reopened;
 mod sessions;
+mod trees;

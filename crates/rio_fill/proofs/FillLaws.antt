@@ -3,7 +3,8 @@ use Rattle.std.proofs.Common.{◌≡◌, ◌==◌, ℕ, ◌+◌, ◌-◌, List, 
 use Rattle.std.proofs.lemmas.List.{append-nil, map-append}
 use Rattle.rio_basket.specs.Open.{takes_entry}
 use Rattle.rio_tree.specs.declared.basket_at.BasketAt.{BasketAt}
-use Rattle.rio_fill.specs.{Cut.{Cut, basket_with, cut_into_baskets, cut_more, cut_of, firsts_from}, Fill.{BranchFill, branch_added, branch_put, count_before, has_no_entries, takes}, Laws.{EntryKeepsCut, FreshIsCut, IsCut, SaveListsBaskets, firsts_of}}
+use Rattle.rio_basket.specs.Cut.{Cut, basket_with, cut_into_baskets, cut_more, cut_of, firsts_from}
+use Rattle.rio_fill.specs.{Fill.{BranchFill, branch_added, branch_put, count_before, has_no_entries, takes}, Laws.{EntryKeepsCut, FreshIsCut, IsCut, SaveListsBaskets, firsts_of}}
 use Rattle.rio_fill.proofs.CutLaws.{count_put, cut_behind_more, cut_full, cut_taken, firsts_more}
 
 module _ (saved : ℕ) (before : List BasketAt) (pending : List (List ℕ)) (b : BranchFill) (entry : List ℕ) (so_far : IsCut saved before pending b) where

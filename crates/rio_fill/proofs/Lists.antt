@@ -1,7 +1,7 @@
 -- Lists of branches that are changed one after the other.
 use Rattle.std.proofs.{Common.{◌≡◌, ℕ, zero, suc, ◌+◌, ◌<◌, ◌≤◌, List, [], ◌∷◌, ◌++◌, length, map, min, take, drop, set, get_or, slice_get, true, Option, Some, None, refl, sym, ap, ◌∙◌, append_assoc, arith}, lemmas.Bool.{and_parts}}
 use Rattle.std.proofs.lemmas.List.{append-nil, drop-drop, drop-set-lt, drop_all, map-set, set-get_or, take_all, take_more_set}
-use Rattle.rio_entry.proofs.Counting.{left_begins}
+use Rattle.rio_entry.proofs.{Counting.{left_begins}, FitsBehind.{drop_min, take_min}}
 use Rattle.rio_tree.specs.{declared.basket_at.BasketAt.{BasketAt}, declared.head.Branch.{Branch}}
 use Rattle.rio_fill.specs.{Fill.{BranchFill, branch_added, branches_added, changed_at}, Heads.{places_wanted, saved_branch, saved_branches}}
 use Rattle.rio_fill.specs.Room.{branch_reserved, branches_reserved, entries_behind, entry_given, may_add, may_be_added, without_room}
@@ -96,18 +96,6 @@ all_done bs k F total none le so_far =
     ∙ ap (λ (l : List BranchFill). l ++ []) (sym (take_all k bs le))
     ∙ ap (λ (l : List BranchFill). take k bs ++ l) (sym none ∙ ap F (sym (drop_all k bs le)))
     ∙ so_far
-
--- ---- a list that is split where it ends
-
-pub take_min : {X : Type 0} (n : ℕ) (xs : List X) → take (min n (length xs)) xs ≡ take n xs
-take_min zero xs = let e : min 0 (length xs) ≡ 0 = omega arith in rw e refl
-take_min (suc n) [] = let e : min (suc n) 0 ≡ 0 = omega arith in rw e refl
-take_min (suc n) (x ∷ xs) = let e : min (suc n) (suc (length xs)) ≡ suc (min n (length xs)) = omega arith in rw e (ap (λ (ys : List _). x ∷ ys) (take_min n xs))
-
-pub drop_min : {X : Type 0} (n : ℕ) (xs : List X) → drop (min n (length xs)) xs ≡ drop n xs
-drop_min zero xs = let e : min 0 (length xs) ≡ 0 = omega arith in rw e refl
-drop_min (suc n) [] = let e : min (suc n) 0 ≡ 0 = omega arith in rw e refl
-drop_min (suc n) (x ∷ xs) = let e : min (suc n) (suc (length xs)) ≡ suc (min n (length xs)) = omega arith in rw e (drop_min n xs)
 
 -- ---- the header of a save
 

@@ -4,7 +4,8 @@ use Rattle.std.proofs.{lemmas.Bool.{and_parts, eqb-true, ltb-true}, lemmas.List.
 use Rattle.std.specs.{List.{concat, list_all}, Prelude.{nat_le, nat_lt}}
 use Rattle.rio_basket.specs.Open.{entries_length, takes_entry}
 use Rattle.rio_basket.proofs.OpenLaws.{least}
-use Rattle.rio_fill.specs.{Cut.{Cut, cut_behind, cut_more}, Laws.{IsSmall, OpenBasketStaysSmall}}
+use Rattle.rio_basket.specs.Cut.{Cut, cut_behind, cut_more}
+use Rattle.rio_fill.specs.{Laws.{IsSmall, OpenBasketStaysSmall}}
 use Rattle.rio_fill.proofs.CutLaws.{cut_full, cut_taken}
 
 bytes_more : (entries : List (List ℕ)) (entry : List ℕ) → entries_length (entries ++ entry ∷ []) ≡ entries_length entries + length entry

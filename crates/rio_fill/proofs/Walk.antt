@@ -1,5 +1,5 @@
 -- The entries of a row, branch after branch.
-use Rattle.std.proofs.Common.{◌≡◌, ◌&&◌, ◌||◌, ℕ, ℤ, Bool, true, false, cond, List, [], ◌∷◌, ◌++◌, length, map, take, drop, Option, Some, None, Result, Ok, Err, refl, sym, ap, subst, ◌∙◌, append_assoc}
+use Rattle.std.proofs.Common.{◌≡◌, ◌&&◌, ◌||◌, ℕ, ℤ, Bool, true, false, cond, List, [], ◌∷◌, ◌++◌, length, map, take, Option, Some, None, Result, Ok, Err, refl, sym, ap, subst, ◌∙◌, append_assoc}
 use Rattle.std.proofs.{lemmas.Bool.{and_parts}, lemmas.List.{append-nil, Folds.{list_any-append}}}
 use Rattle.std.specs.{Map.{lookup}, Prelude.{is_some, pos, unwrap_or, ◌==◌, not}, Str.{bytes_eq}}
 use Rattle.rio_num.proofs.BytesEq.{bytes_eq-sym}
@@ -24,28 +24,11 @@ use Rattle.rio_fill.specs.{Parts.{with_part}, Prepare.{HaveNumbers, part_written
 
 -- ---- the columns of one branch, and those behind
 
-and_assoc : (a b c : Bool) → (a && (b && c)) ≡ ((a && b) && c)
-and_assoc true b c = refl
-and_assoc false b c = refl
-
 module _ (classes : List ClassDef) where
-  pub split_fits : (cs rest : List Column) (row : List Value) (before : Counters) → columns_fit classes (cs ++ rest) row before ≡ (columns_fit classes cs (take (length cs) row) before && columns_fit classes rest (drop (length cs) row) (leaf_numbers_after cs row before))
-  split_fits [] rest row before = refl
-  split_fits (c ∷ cs) rest [] before = refl
-  split_fits (c ∷ cs) rest (v ∷ vs) before =
-      let now = leaf_numbers_behind c v before in
-      ap (λ (b : Bool). stands_in classes (column_slot before c) v && b) (split_fits cs rest vs now)
-      ∙ and_assoc (stands_in classes (column_slot before c) v) (columns_fit classes cs (take (length cs) vs) now) (columns_fit classes rest (drop (length cs) vs) (leaf_numbers_after cs vs now))
-
   pub front_bytes : (cs : List Column) (row : List Value) (before : Counters) → columns_bytes classes cs (take (length cs) row) before ≡ columns_bytes classes cs row before
   front_bytes [] row before = refl
   front_bytes (c ∷ cs) [] before = refl
   front_bytes (c ∷ cs) (v ∷ vs) before = let same = front_bytes cs vs (leaf_numbers_behind c v before) in rw same refl
-
-pub front_numbers : (cs : List Column) (row : List Value) (before : Counters) → leaf_numbers_after cs (take (length cs) row) before ≡ leaf_numbers_after cs row before
-front_numbers [] row before = refl
-front_numbers (c ∷ cs) [] before = refl
-front_numbers (c ∷ cs) (v ∷ vs) before = front_numbers cs vs (leaf_numbers_behind c v before)
 
 -- ---- the leaves that say a number
 

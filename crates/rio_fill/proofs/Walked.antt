@@ -13,9 +13,9 @@ use Rattle.rio_value.specs.declared.value.Value.{Value}
 use Rattle.rio_machine.specs.declared.entry_fault.EntryFault.{EntryFault, TheVariants.{BadRow, TooLarge, NoMemory as OutOfMemory}}
 use Rattle.rio_num.specs.Answers.{GivesUnless}
 use Rattle.rio_entry.specs.Leaves.{numbers_after}
-use Rattle.rio_entry.proofs.RowReads.{numbers_as_columns}
+use Rattle.rio_entry.proofs.{FitsBehind.{front_numbers, split_fits}, RowReads.{numbers_as_columns}}
 use Rattle.rio_fill.specs.{Parts.{whole_row, with_part}, Prepare.{HaveNumbers, are_sized, is_sized, row_prepared, within_limits}, declared.prepared.Parts.{Parts}}
-use Rattle.rio_fill.proofs.{Sizes.{part_sized}, Walk.{front_bytes, front_numbers, have_shape, split_fits}}
+use Rattle.rio_fill.proofs.{Sizes.{part_sized}, Walk.{front_bytes, have_shape}}
 
 abbrev pub any_long : List (List ℕ) → Bool
 any_long entries = list_any (λ entry. is_too_long (length entry)) entries

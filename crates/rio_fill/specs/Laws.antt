@@ -4,7 +4,8 @@ use Rattle.std.specs.List.{list_all}
 use Rattle.rio_basket.specs.Open.{entries_length}
 use Rattle.std.specs.Option.{option_map_or}
 use Rattle.rio_tree.specs.declared.basket_at.BasketAt.{BasketAt}
-use Rattle.rio_fill.specs.{Cut.{all_entries, cut_into_baskets, cut_of, firsts_from}, Fill.{BranchFill, branch_added, branch_put, count_before, full_flags, has_flag, has_no_entries, is_full_for, takes}, Prepare.{is_sized}, Room.{branch_reserved, may_be_added}}
+use Rattle.rio_basket.specs.Cut.{all_entries, cut_into_baskets, cut_of, firsts_from}
+use Rattle.rio_fill.specs.{Fill.{BranchFill, branch_added, branch_put, count_before, full_flags, has_flag, has_no_entries, is_full_for, takes}, Prepare.{is_sized}, Room.{branch_reserved, may_be_added}}
 
 abbrev pub firsts_of : List BasketAt → List ℕ
 firsts_of ats = map (λ at. at.first) ats

@@ -1,4 +1,3 @@
-pub mod Cut
 pub mod Fill
 pub mod Heads
 pub mod Laws

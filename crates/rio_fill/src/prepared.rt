@@ -13,7 +13,7 @@ ghost use Rattle.rio_fill.specs.Parts.{PutsPart, whole_row};
 
 use crate::branch::OpenBranch;
 use rio_basket::Entries;
-use rio_entry::{EntryFault, Numbers, leaf_counts, note_leaves, write_entry};
+use rio_entry::{EntryFault, Numbers, leaf_counts, note_leaves, value_count, write_entry};
 use rio_leaf::{BranchDef, Leaf, Shape, leaves_of};
 use rio_num::{Bytes, NoMemory};
 use rio_types::Classes;
@@ -22,16 +22,6 @@ use std::alloc::Global;
 
 /// The bytes of a row, one entry for each branch.
 pub type Prepared = Entries;
-
-// How many values of a row belong to the branch.
-fn value_count(shape: &Shape) -> usize
-    ensures { result ≡ length (shape_columns shape.now) }
-{
-    match shape {
-        Shape::Leaves(leaves) => leaves.len(),
-        Shape::Class(_) => 1,
-    }
-}
 
 fn copies(alloc: Global, values: &[Value]) -> Result<Values, NoMemory>
     ensures { IfOk result (λ copies. copies ≡ values.now) }

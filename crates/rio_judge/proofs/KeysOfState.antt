@@ -1,9 +1,9 @@
--- What keys tell of the state for whose objects they stand: which names and cycles there are, how many, and the next cycle.
-use Rattle.std.proofs.Common.{◌≡◌, ℕ, ◌+◌, ◌<◌, ◌∙◌, List, [], ◌∷◌, map, length, Bool, true, false, cond, ◌&&◌, ◌||◌, ltb, eqb, max, Some, None, refl, sym, ap, subst, arith}
-use Rattle.std.proofs.{lemmas.Bool.{and_from, and_parts, eq-eqb, eqb-true}, lemmas.Cmp.{nat_list_eq_equiv}, lemmas.List.{length-map}}
+-- What keys tell of the objects for which they stand: which names and cycles there are, and the next cycle.
+use Rattle.std.proofs.Common.{◌≡◌, ℕ, ◌+◌, ◌<◌, ◌∙◌, List, [], ◌∷◌, map, Bool, true, false, cond, ◌&&◌, ◌||◌, ltb, eqb, max, Some, None, refl, sym, ap, subst, arith}
+use Rattle.std.proofs.{lemmas.Bool.{and_from, and_parts, eq-eqb, eqb-true}, lemmas.Cmp.{nat_list_eq_equiv}}
 use Rattle.std.proofs.lemmas.Map.Views.{tells_apart}
 use Rattle.std.specs.{Prelude.{is_some}, Cmp.{both_ways, eq_by_cmp_equiv}}
-use Rattle.std.specs.FinMap.{contains_key, contains_key-keys, entries, entries_sorted, keys, len, len-empty, len-entries, get, get-empty, Entries.{below_all, is_sorted}}
+use Rattle.std.specs.FinMap.{contains_key, contains_key-keys, entries, entries_sorted, keys, get, get-empty, Entries.{below_all, is_sorted}}
 use Rattle.std.specs.{List.{filter, find, list_any}, Ordering.{eq_by_cmp, is_lt, nat_cmp, ordering_then}, Str.{bytes_eq}}
 use Rattle.std.specs.declared.cmp.Ordering.{Ordering, TheVariants.{Less, Equal, Greater}}
 use Rattle.rio_num.proofs.{NameSets.{any_map}, Cases.{is_true}}
@@ -13,8 +13,12 @@ use Rattle.rio_dir.specs.Table.{AreBehind, AreOrdered, first_by, greatest_cycle,
 use Rattle.rio_dir.proofs.{TableLists.{cycle_of, greatest_is}, TableOrder.{at_is}}
 use Rattle.rio_value.specs.{Depth.{greatest}, declared.value.Value.{Value}}
 use Rattle.rio_machine.proofs.OrderLaws.{items_tie, items_total}
-use Rattle.rio_machine.specs.State.{NameAndCycle, State, Tree, item_count, item_order, last_cycle, names_object}
+use Rattle.rio_machine.specs.State.{NameAndCycle, State, item_order, last_cycle, names_object}
 use Rattle.rio_step.specs.{ItemKeys.{AreKeysOfState, told_by_key}, Step.{listed_object}}
+
+-- these keys, in this order, tell what is listed of the state's objects
+abbrev pub AreKeysOfObjects : List KeyHead → State → Type 0
+AreKeysOfObjects heads m = map told_by_key heads ≡ map listed_object (entries m.objects)
 
 -- the name and cycle that a key tells
 abbrev pub item_of : KeyHead → NameAndCycle
@@ -31,9 +35,9 @@ items_listed [] = refl
 items_listed (e ∷ es) = ap (λ xs. e.0 ∷ xs) (items_listed es)
 
 -- the keys tell the names and cycles of the objects
-pub keys_are : (heads : List KeyHead) (m : State) → AreKeysOfState heads m → keys m.objects ≡ map item_of heads
+pub keys_are : (heads : List KeyHead) (m : State) → AreKeysOfObjects heads m → keys m.objects ≡ map item_of heads
 keys_are heads m are =
-    sym (items_listed (entries m.objects)) ∙ ap (λ xs. map (λ x. x.0) xs) (sym are.objects) ∙ items_told heads
+    sym (items_listed (entries m.objects)) ∙ ap (λ xs. map (λ x. x.0) xs) (sym are) ∙ items_told heads
 
 -- ---- what there is
 
@@ -46,7 +50,7 @@ any_found p (h ∷ hs) = by (p h) (any_found p hs)
     by false ih = ih
 
 -- an object has the name exactly where a key has it
-pub names_are : (heads : List KeyHead) (m : State) (name : List ℕ) → AreKeysOfState heads m → names_object m name ≡ is_some (head_of name None heads)
+pub names_are : (heads : List KeyHead) (m : State) (name : List ℕ) → AreKeysOfObjects heads m → names_object m name ≡ is_some (head_of name None heads)
 names_are heads m name are =
     ap (list_any (λ item. bytes_eq item.0 name)) (keys_are heads m are) ∙ any_map item_of (λ item. bytes_eq item.0 name) heads ∙ any_found (is_of_name name) heads
 
@@ -67,7 +71,7 @@ at_item name cycle h = both_ways _ _ one two
         ap (eq_by_cmp item_order (name, cycle)) (sym same) ∙ (eq_by_cmp_equiv items_total).refl (name, cycle)
 
 -- an object of the name is there in the cycle exactly where its key is
-pub contains_is : (heads : List KeyHead) (m : State) (name : List ℕ) (cycle : ℕ) → AreKeysOfState heads m
+pub contains_is : (heads : List KeyHead) (m : State) (name : List ℕ) (cycle : ℕ) → AreKeysOfObjects heads m
     → contains_key m.objects (name, cycle) ≡ is_some (head_of name (Some cycle) heads)
 contains_is heads m name cycle are =
     contains_key-keys m.objects (name, cycle)
@@ -79,13 +83,6 @@ contains_is heads m name cycle are =
 -- no tree has a name
 pub no_tree : (heads : List KeyHead) (m : State) (name : List ℕ) → AreKeysOfState heads m → get m.trees name ≡ None
 no_tree heads m name are = ap (λ trees. get trees name) are.trees ∙ get-empty name_order name
-
--- there are as many items as keys
-pub count_is : (heads : List KeyHead) (m : State) → AreKeysOfState heads m → item_count m ≡ length heads
-count_is heads m are =
-    let listed = sym (length-map (entries m.objects) listed_object) ∙ ap length (sym are.objects) ∙ length-map heads told_by_key in
-    let trees : len m.trees ≡ 0 = ap len are.trees ∙ len-empty name_order Tree in
-    omega (arith, listed, trees, len-entries m.objects)
 
 -- ---- cycles
 
@@ -104,7 +101,7 @@ greatest_of name (h ∷ hs) = by (bytes_eq h.name name) (greatest_of name hs)
     by false ih = ih
 
 -- the greatest cycle of a name's keys is that of its objects
-pub cycles_are : (heads : List KeyHead) (m : State) (name : List ℕ) → AreKeysOfState heads m → last_cycle m name ≡ greatest_cycle name heads
+pub cycles_are : (heads : List KeyHead) (m : State) (name : List ℕ) → AreKeysOfObjects heads m → last_cycle m name ≡ greatest_cycle name heads
 cycles_are heads m name are =
     ap (λ items. greatest (map (λ item. item.1) (filter (λ item. bytes_eq item.0 name) items))) (keys_are heads m are) ∙ greatest_of name heads
 
@@ -164,11 +161,11 @@ ordered (h ∷ hs) (e ∷ es) same rising =
     (behind h.name h.cycle hs es rest (subst (λ item. below_all item_order item es ≡ true) first parts.0), ordered hs es rest parts.1)
 
 -- they stand in the order of the key list
-pub keys_are_ordered : (heads : List KeyHead) (m : State) → AreKeysOfState heads m → AreOrdered heads
+pub keys_are_ordered : (heads : List KeyHead) (m : State) → AreKeysOfObjects heads m → AreOrdered heads
 keys_are_ordered heads m are = ordered heads (entries m.objects) (keys_are heads m are) (is_true _ (entries_sorted m.objects))
 
 -- the first key of a name has the greatest cycle of its objects
-pub first_is_greatest : (heads : List KeyHead) (m : State) (name : List ℕ) (h : KeyHead) → AreKeysOfState heads m
+pub first_is_greatest : (heads : List KeyHead) (m : State) (name : List ℕ) (h : KeyHead) → AreKeysOfObjects heads m
     → head_of name None heads ≡ Some h → last_cycle m name ≡ h.cycle
 first_is_greatest heads m name h are found =
     cycles_are heads m name are ∙ greatest_is name heads (keys_are_ordered heads m are) ∙ ap cycle_of found

@@ -10,10 +10,11 @@ use Rattle.rio_format.specs.Written.{written_form}
 use Rattle.rio_model.specs.Resolving.{resolved}
 use Rattle.rio_machine.specs.{Limits.{cycle_limit, data_length, has_long_list, is_too_deep, is_too_long, item_limit}, State.{State}}
 use Rattle.rio_machine.specs.declared.command.Command.TheVariants.{Put}
-use Rattle.rio_machine.specs.declared.refusal.Refusal.TheVariants.{BadName, NoSuchClass, DoesNotFit, CycleLimit, TooLarge, TooDeep, TooMany}
-use Rattle.rio_step.specs.{ItemKeys.{AreKeysOfState}, Refusing.{first_of, is_fit, is_kept_out, is_list_name, object_class, put_value, refused_if}}
+use Rattle.rio_machine.specs.declared.refusal.Refusal.TheVariants.{BadName, NameIsTree, NoSuchClass, DoesNotFit, CycleLimit, TooLarge, TooDeep, TooMany}
+use Rattle.rio_tree_table.specs.{Table.{tree_of}, declared.table.KeptTree.{KeptTree}}
+use Rattle.rio_step.specs.{KeptItems.{AreItemsOfState}, Refusing.{first_of, is_fit, is_kept_out, is_list_name, object_class, put_value, refused_if}}
 use Rattle.rio_judge.specs.{Judging.{CanBeStored, IsStep}, Stops.{GoesByState}, declared.work.{StoredObject.{StoredObject}, Work.TheVariants.{Put as Storing}}}
-use Rattle.rio_judge.proofs.KeysOfState.{cycles_are, next_is_new}
+use Rattle.rio_judge.proofs.{ItemsOfState.{names_objects}, KeysOfState.{next_is_new}}
 use Rattle.rio_judge.proofs.PutTests.{count_tests, cycle_tests, fit_tests, name_tests, put_refusal, put_tests}
 use Rattle.rio_judge.proofs.TestsInOrder.{passes_one, passes_two}
 
@@ -55,38 +56,39 @@ module _ (classes : List ClassDef) (heads : List KeyHead) (v : Value) (o : Store
         room = leb-false _ _ many.1;
       }
 
-  module _ (s : CanBeStored classes heads v o) where
-    none_tells : first_of (put_tests classes heads o.name v o.value) ≡ None
+  module _ (trees : List KeptTree) (apart : tree_of o.name trees ≡ None) (s : CanBeStored classes heads v o) where
+    none_tells : first_of (put_tests classes heads trees o.name v o.value) ≡ None
     none_tells =
         let known : not (is_some (resolved classes v)) ≡ false = ap (λ x. not (is_some x)) s.value in
         let unfit : not (is_fit classes o.value) ≡ false = ap not s.object.fit in
         let cycle : ltb cycle_limit (greatest_cycle o.name heads + 1) ≡ false = le-ltb _ _ (omega (arith, s.last, s.cycle)) in
         let many : (has_long_list o.value || leb item_limit (length heads)) ≡ false = or_from _ _ s.object.few (lt-leb _ _ s.room) in
         λ i. option_or (refused_if (s.free i) BadName)
+        (option_or (refused_if (is_some (apart i)) NameIsTree)
         (option_or (refused_if (known i) NoSuchClass)
         (option_or (refused_if (s.object.taken i) NoSuchClass)
         (option_or (refused_if (unfit i) DoesNotFit)
         (option_or (refused_if (cycle i) CycleLimit)
         (option_or (refused_if (s.object.short i) TooLarge)
         (option_or (refused_if (s.object.shallow i) TooDeep)
-        (option_or (refused_if (many i) TooMany) None)))))))
+        (option_or (refused_if (many i) TooMany) None))))))))
 
 -- it does what the step does
-pub stores_as_step : (heads : List KeyHead) (m : State) (v : Value) (o : StoredObject) → AreKeysOfState heads m → CanBeStored m.classes heads v o → GoesByState m (Put o.name v) (Ok (Storing o))
-stores_as_step heads m v o are s =
+pub stores_as_step : (heads : List KeyHead) (trees : List KeptTree) (m : State) (v : Value) (o : StoredObject) → AreItemsOfState heads trees m → tree_of o.name trees ≡ None → CanBeStored m.classes heads v o → GoesByState m (Put o.name v) (Ok (Storing o))
+stores_as_step heads trees m v o are apart s =
     let value : put_value m v ≡ o.value = ap (λ x. unwrap_or x v) s.value in
-    let none = put_refusal heads m o.name v are ∙ ap (λ w. first_of (put_tests m.classes heads o.name v w)) value ∙ none_tells m.classes heads v o s in
+    let none = put_refusal heads trees m o.name v are ∙ ap (λ w. first_of (put_tests m.classes heads trees o.name v w)) value ∙ none_tells m.classes heads v o trees apart s in
     let step : IsStep m v o = record {
       value = sym value;
       class = s.class;
-      cycle = s.cycle ∙ ap (λ n. n + 1) (sym (cycles_are heads m o.name are));
+      cycle = s.cycle ∙ ap (λ n. n + 1) (sym (names_objects heads trees m are o.name apart).last);
       written = s.written 0;
     } in
     (none, (refl, step))
 
--- for each state that has the classes and for whose objects the keys stand
-pub put_answers : (classes : List ClassDef) (heads : List KeyHead) (name : List ℕ) (v : Value) (o : StoredObject) → o.name ≡ name → CanBeStored classes heads v o
-    → (m : State) → m.classes ≡ classes → AreKeysOfState heads m → GoesByState m (Put name v) (Ok (Storing o))
-put_answers classes heads name v o named s m same are =
+-- for each state that has the classes and for whose items the keys and trees stand
+pub put_answers : (classes : List ClassDef) (heads : List KeyHead) (trees : List KeptTree) (name : List ℕ) (v : Value) (o : StoredObject) → o.name ≡ name → tree_of name trees ≡ None → CanBeStored classes heads v o
+    → (m : State) → m.classes ≡ classes → AreItemsOfState heads trees m → GoesByState m (Put name v) (Ok (Storing o))
+put_answers classes heads trees name v o named apart s m same are =
     subst (λ (n : List ℕ). GoesByState m (Put n v) (Ok (Storing o))) named
-    (stores_as_step heads m v o are (subst (λ (cs : List ClassDef). CanBeStored cs heads v o) (sym same) s))
+    (stores_as_step heads trees m v o are (ap (λ n. tree_of n trees) named ∙ apart) (subst (λ (cs : List ClassDef). CanBeStored cs heads v o) (sym same) s))

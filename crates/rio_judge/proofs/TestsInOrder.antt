@@ -4,7 +4,7 @@ use Rattle.rio_machine.specs.declared.refusal.Refusal.{Refusal}
 use Rattle.rio_step.specs.Refusing.{first_of, refused_if}
 use Rattle.rio_judge.specs.{Stops.{StopsAt}, declared.stop.Stop.{Stop, TheVariants.{Refused, NoMemory}}}
 
-same_front : (xs ys : List (Option Refusal)) → first_of xs ≡ None → first_of (xs ++ ys) ≡ first_of ys
+pub same_front : (xs ys : List (Option Refusal)) → first_of xs ≡ None → first_of (xs ++ ys) ≡ first_of ys
 same_front [] ys e = refl
 same_front (None ∷ xs) ys e = same_front xs ys e
 same_front (Some x ∷ xs) ys e = absurd cc

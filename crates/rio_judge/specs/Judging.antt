@@ -6,10 +6,10 @@ use Rattle.rio_types.specs.declared.class.ClassDef.{ClassDef}
 use Rattle.rio_value.specs.declared.value.Value.{Value}
 use Rattle.rio_format.specs.{Written.{written_form}, WrittenBytes.{length_limit, written_list}}
 use Rattle.rio_model.specs.{Declaring.{declare_fault, declared}, Resolving.{resolved}}
-use Rattle.rio_machine.specs.{Limits.{cycle_limit, item_limit}, State.{State, next_cycle}, declared.command.Command.{Command, TheVariants.{Bad, Class, Put, Delete, Get, Ls}}}
-use Rattle.rio_machine.specs.declared.refusal.Refusal.{Refusal, TheVariants.{NoVersion}}
+use Rattle.rio_machine.specs.{Limits.{cycle_limit, item_limit}, State.{State, next_cycle}, declared.command.Command.{Command, TheVariants.{Bad, Class, Put, Delete, Fill, Get, Scan, Ls}}}
+use Rattle.rio_machine.specs.declared.refusal.Refusal.{Refusal, TheVariants.{BadRow, NoVersion, CycleLimit, TooLarge, TooDeep, TooMany}}
 use Rattle.rio_step.specs.ItemKeys.{AreKeysOfState}
-use Rattle.rio_step.specs.Refusing.{first_of, is_list_name, kind_change, lacks_version, meant_cycle, meant_object, object_class, put_value, refusal_of, refused_if, with_class}
+use Rattle.rio_step.specs.Refusing.{first_of, goes_too_deep, has_too_many, is_at_last_cycle, is_bad_row, is_list_name, is_too_large, kind_change, lacks_version, meant_cycle, meant_object, object_class, put_value, refusal_of, refused_if, with_class}
 use Rattle.rio_step.specs.{Costs.{info_size}, Storable.{IsStoredObject}}
 use Rattle.rio_judge.specs.declared.work.Judged.{Judged, TheVariants.{Accepted, Refused}}
 use Rattle.rio_judge.specs.declared.work.{NewClass.{NewClass}, StoredObject.{StoredObject}}
@@ -43,11 +43,26 @@ IsWorkOf m (Get name cycle version) (Telling h asked) = (h.name ≡ name) × (h.
 IsWorkOf m Ls Listing = Unit {0}
 IsWorkOf m other work = ⊥
 
--- Why a get in a version of the object's class is refused by the object itself: a kind has changed, or there is no such
--- version. These two are the last refusals of a get. Classes and keys don't tell them; no other command has one.
+-- Why a row is refused that a fill adds, once its classes are known.
+abbrev pub refused_by_row : State → Command → Option Refusal
+refused_by_row m c =
+    first_of
+    (refused_if (is_bad_row m c) BadRow
+    ∷ refused_if (is_at_last_cycle m c) CycleLimit
+    ∷ refused_if (is_too_large m c) TooLarge
+    ∷ refused_if (goes_too_deep m c) TooDeep
+    ∷ refused_if (has_too_many m c) TooMany
+    ∷ [])
+
+-- Why a command is refused by what neither classes nor keys tell. An object that is asked for in a version of its class may
+-- have changed a kind, or there is no such version; so may the rows of a tree have changed a kind, where the version is
+-- known. A row may not fit the branches of its tree or pass a limit. These are the last refusals of these commands, and no
+-- other command has one.
 abbrev pub refused_by_object : State → Command → Option Refusal
 refused_by_object m (Get name cycle (Some version)) =
     first_of (kind_change m (Get name cycle (Some version)) ∷ refused_if (lacks_version m (Get name cycle (Some version))) NoVersion ∷ [])
+refused_by_object m (Fill name row) = refused_by_row m (Fill name row)
+refused_by_object m (Scan name class) = kind_change m (Scan name class)
 refused_by_object m other = None
 
 -- It tells the state's first refusal, or what the command is to do. The state then refuses the command for no other reason

@@ -1,10 +1,17 @@
 -- Where a judgement stops.
-use Rattle.std.specs.Prelude.{◌≡◌, List, Option, Some, None, Result, Ok, Err}
-use Rattle.rio_machine.specs.{State.{State}, declared.command.Command.{Command}, declared.refusal.Refusal.{Refusal, TheVariants.{NoSuchClass, SameVersion, HoldsItself, TooMany}}}
+use Rattle.std.specs.{Prelude.{◌≡◌, ℕ, List, [], ◌∷◌, length, Bool, true, false, ◌||◌, nat_le, Option, Some, None, is_some, Result, Ok, Err}, List.{list_any}}
+use Rattle.rio_key.specs.declared.head.KeyHead.{KeyHead}
+use Rattle.rio_dir.specs.Table.{head_of}
+use Rattle.rio_leaf.specs.declared.branch.BranchDef.{BranchDef}
+use Rattle.rio_types.specs.declared.class.ClassDef.{ClassDef}
+use Rattle.rio_machine.specs.{Limits.{cycle_limit, has_long_list, has_many_branches, is_too_deep, item_limit}, declared.entry_fault.EntryFault.{EntryFault, TheVariants.{BadRow as BadEntryRow, TooLarge as EntryTooLarge}}}
+use Rattle.rio_machine.specs.{State.{Row, State}, declared.command.Command.{Command}, declared.refusal.Refusal.{Refusal, TheVariants.{BadName, NameInUse, NoSuchClass, SameVersion, HoldsItself, BadRow, CycleLimit, TooLarge, TooDeep, TooMany}}}
 use Rattle.rio_model.specs.declared.declare.DeclareFault as declaring
-use Rattle.rio_step.specs.Refusing.{first_of, refusal_of}
+use Rattle.rio_step.specs.Refusing.{first_of, is_list_name, refusal_of, refused_if}
+use Rattle.rio_model.specs.Declaring.{shape_lacks_class}
 use Rattle.rio_valtext.specs.declared.resolving.ResolveFault.{ResolveFault, TheVariants.{NoSuchClass as Unknown, NoMemory as NoRoom}}
-use Rattle.rio_judge.specs.{Judging.{IsWorkOf, refused_by_object}, declared.stop.Stop.{Stop, TheVariants.{Refused, NoMemory}}, declared.work.Work.{Work}}
+use Rattle.rio_judge.specs.{Judging.{IsWorkOf, refused_by_object}, Trees.{IsAnyWorkOf, IsTreeWorkOf}, declared.stop.Stop.{Stop, TheVariants.{Refused, NoMemory}}}
+use Rattle.rio_judge.specs.declared.work.{AnyWork.{AnyWork, TheVariants.{Item, Tree as OfTree}}, TreeWork.{TreeWork}, Work.{Work}}
 
 -- a class that isn't known refuses a command
 abbrev pub stop_of : ResolveFault → Stop
@@ -33,3 +40,48 @@ GoesByTests tests (Err stop) = StopsAt (first_of tests) stop
 abbrev pub GoesByState : State → Command → Result Work Stop → Type 0
 GoesByState m c (Ok work) = (refusal_of m c None ≡ refused_by_object m c) × IsWorkOf m c work
 GoesByState m c (Err stop) = StopsAt (refusal_of m c None) stop
+
+-- the same of what is to be done with trees
+abbrev pub GoesByTree : State → Command → Result TreeWork Stop → Type 0
+GoesByTree m c (Ok work) = (refusal_of m c None ≡ refused_by_object m c) × IsTreeWorkOf m c work
+GoesByTree m c (Err stop) = StopsAt (refusal_of m c None) stop
+
+abbrev pub GoesByItems : State → Command → Result AnyWork Stop → Type 0
+GoesByItems m c (Ok work) = (refusal_of m c None ≡ refused_by_object m c) × IsAnyWorkOf m c work
+GoesByItems m c (Err stop) = StopsAt (refusal_of m c None) stop
+
+-- work with objects or classes, and with trees, among all work
+abbrev pub as_item : Result Work Stop → Result AnyWork Stop
+as_item (Ok work) = Ok (Item work)
+as_item (Err stop) = Err stop
+
+abbrev pub as_tree : Result TreeWork Stop → Result AnyWork Stop
+as_tree (Ok work) = Ok (OfTree work)
+as_tree (Err stop) = Err stop
+
+-- the tests that can refuse a tree that is made
+abbrev pub tree_tests : List ClassDef → List KeyHead → List ℕ → List BranchDef → List (Option Refusal)
+tree_tests classes heads name branches =
+    refused_if (is_list_name name) BadName
+    ∷ refused_if (is_some (head_of name None heads)) NameInUse
+    ∷ refused_if (list_any (λ b. shape_lacks_class classes b.shape) branches) NoSuchClass
+    ∷ refused_if (nat_le item_limit (length heads) || has_many_branches branches) TooMany
+    ∷ []
+
+-- the tests that can refuse a row of a tree in this cycle, which has no entries for this reason, or has them
+abbrev pub row_tests : ℕ → Option EntryFault → Row → List (Option Refusal)
+row_tests cycle fault row =
+    refused_if (is_bad_row fault) BadRow
+    ∷ refused_if (nat_le cycle_limit cycle) CycleLimit
+    ∷ refused_if (is_long_row fault) TooLarge
+    ∷ refused_if (list_any is_too_deep row) TooDeep
+    ∷ refused_if (list_any has_long_list row) TooMany
+    ∷ []
+  where
+    is_bad_row : Option EntryFault → Bool
+    is_bad_row (Some BadEntryRow) = true
+    is_bad_row other = false
+
+    is_long_row : Option EntryFault → Bool
+    is_long_row (Some EntryTooLarge) = true
+    is_long_row other = false

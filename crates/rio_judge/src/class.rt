@@ -12,7 +12,7 @@ ghost use Rattle.rio_types.specs.Classes.{find_in};
 ghost use Rattle.rio_judge.specs.Judging.{WorkCanBeDone};
 ghost use Rattle.rio_judge.specs.Stops.{GoesByState, GoesByTests};
 
-use crate::put::LENGTH_LIMIT;
+use crate::limit::LENGTH_LIMIT;
 use crate::stop::Stop;
 use crate::{NewClass, Work};
 use rio_info::info_length_with;

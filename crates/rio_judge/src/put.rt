@@ -8,11 +8,14 @@ ghost use Rattle.rio_machine.specs.State.{State};
 ghost use Rattle.rio_machine.specs.declared.command.Command.{Command};
 ghost use Rattle.rio_machine.specs.declared.refusal.Refusal.{Refusal as Refusing};
 ghost use Rattle.rio_model.specs.Resolving.{resolved};
-ghost use Rattle.rio_step.specs.ItemKeys.{AreKeysOfState};
-ghost use Rattle.rio_step.specs.Refusing.{is_fit, is_kept_out, is_list_name, object_class, refused_if};
+ghost use Rattle.rio_step.specs.KeptItems.{AreItemsOfState};
+ghost use Rattle.rio_step.specs.Refusing.{is_fit, is_kept_out, object_class, refused_if};
+ghost use Rattle.rio_tree_table.specs.Table.{tree_of};
 ghost use Rattle.rio_judge.specs.Judging.{WorkCanBeDone};
 ghost use Rattle.rio_judge.specs.Stops.{GoesByState, GoesByTests};
 
+use crate::key::{check_name, check_no_tree};
+use crate::limit::{CYCLE_LIMIT, DEPTH_LIMIT, ITEM_LIMIT, LENGTH_LIMIT, LIST_LIMIT};
 use crate::stop::Stop;
 use crate::{StoredObject, Work};
 use rio_dir::KeyTable;
@@ -20,36 +23,12 @@ use rio_fit::{can_be_put, fits};
 use rio_key::key_length_of;
 use rio_machine::Refusal;
 use rio_num::{Name, padded};
+use rio_tree_table::TreeTable;
 use rio_types::Classes;
 use rio_valtext::resolved;
 use rio_value::{Value, depth, longest_list};
 use rio_write::written_length;
 use std::alloc::Global;
-
-/// The greatest cycle.
-const CYCLE_LIMIT: u32 = 32_767;
-
-/// The most bytes of an object's data, and of a class list.
-pub(crate) const LENGTH_LIMIT: u64 = 16_777_216;
-
-/// The most levels of objects in a value.
-const DEPTH_LIMIT: u32 = 256;
-
-/// The most values in a list.
-const LIST_LIMIT: u64 = 100_000;
-
-/// The most objects and trees of a file.
-const ITEM_LIMIT: usize = 100_000;
-
-// The name of the class list is taken.
-fn check_name(name: &[u8]) -> Result<(), Stop>
-    ensures { GoesByTests (refused_if (is_list_name name.now) Refusing.BadName ∷ []) result }
-{
-    if name == b"StreamerInfo".as_slice() {
-        return Err(Stop::Refused(Refusal::BadName));
-    }
-    Ok(())
-}
 
 // The value with its versions.
 fn known_value(alloc: Global, classes: &Classes, value: &Value) -> Result<Value, Stop>
@@ -153,15 +132,19 @@ pub(crate) fn put_work(
     alloc: Global,
     classes: &Classes,
     table: &KeyTable,
+    trees: &TreeTable,
     name: &[u8],
     value: &Value,
 ) -> Result<Work, Stop>
-    ensures answers { (m : State) → m.classes ≡ classes.now → AreKeysOfState table.now.heads m
+    ensures answers { (m : State) → m.classes ≡ classes.now
+        → AreItemsOfState table.now.heads trees.now.trees m
         → GoesByState m (Command.Put name.now value.now) result }
     ensures sound { IfOk result (WorkCanBeDone classes.now table.now.heads
         (Command.Put name.now value.now)) }
+    ensures no_tree { IfOk result (λ _. tree_of name.now trees.now.trees ≡ None) }
 {
     check_name(name)?;
+    check_no_tree(trees, name)?;
     let value = known_value(alloc, classes, value)?;
     let class = taken_class(alloc, classes, &value)?;
     let cycle = next_cycle(table, name)?;

@@ -14,6 +14,8 @@ use std::alloc::Global;
 
 mod declarations;
 mod limits;
+mod rows;
+mod trees;
 
 fn key(alloc: Global) -> Result<KeyHead, NoMemory> {
     Ok(KeyHead {
@@ -167,7 +169,7 @@ static PUTS: [Put; 10] = [
     },
 ];
 
-fn value_of(alloc: Global, text: &[u8]) -> Result<Value, NoMemory> {
+pub(crate) fn value_of(alloc: Global, text: &[u8]) -> Result<Value, NoMemory> {
     if text.len() > 1000 {
         return Err(NoMemory);
     }

@@ -1,12 +1,12 @@
 -- A row of a tree is read of one entry for each branch.
-use Rattle.std.specs.Prelude.{ℕ, ℤ, pos, List, [], ◌∷◌, ◌++◌, map, Result, Ok, unwrap_or}
-use Rattle.std.specs.{Map.{lookup}, Str.{bytes_eq}}
+use Rattle.std.specs.Prelude.{ℕ, ℤ, pos, List, [], ◌∷◌, ◌++◌, map, Option, Result, Ok, unwrap_or, option_and_then}
+use Rattle.std.specs.{Map.{lookup}, Result.{result_ok}, Str.{bytes_eq}}
 use Rattle.rio_leaf.specs.{declared.branch.BranchDef.{BranchDef}, declared.leaf.Dim.{Dim, TheVariants.{Counted}}}
 use Rattle.rio_format.specs.Bodies.{Counters}
-use Rattle.rio_num.specs.Reading.{◌>>=◌}
+use Rattle.rio_num.specs.Reading.{◌>>=◌, some_if}
 use Rattle.rio_value.specs.declared.value.Value.{Value, Int}
 use Rattle.rio_types.specs.declared.class.ClassDef.{ClassDef}
-use Rattle.rio_machine.specs.{Entries.{entry_in}, Rows.{Column, leaf_column, object_column, leaf_numbers_after, shape_columns}}
+use Rattle.rio_machine.specs.{Entries.{entry_in}, Rows.{Column, leaf_column, object_column, leaf_numbers_after, row_fits, shape_columns}, State.{Row}}
 use Rattle.rio_machine.specs.declared.entry_fault.EntryFault.{EntryFault}
 
 -- ---- counts
@@ -47,3 +47,7 @@ row_from classes (b ∷ bs) (entry ∷ entries) before = do
 -- a row of a tree, read of one entry for each branch
 abbrev pub row_in : List ClassDef → List BranchDef → List (List ℕ) → Result (List Value) EntryFault
 row_in classes branches entries = row_from classes branches entries []
+
+-- that row, if the entries are read and it fits the branches
+abbrev pub fitting_row : List ClassDef → List BranchDef → List (List ℕ) → Option Row
+fitting_row classes branches entries = option_and_then (λ row. some_if (row_fits classes branches row) row) (result_ok (row_in classes branches entries))

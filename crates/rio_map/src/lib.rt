@@ -2,8 +2,9 @@
 //!
 //! `flat_as` gives a value of one kind in another one, where no object is in it; `stays` tells of objects and pointers
 //! whether both kinds are of one class. `kind_zero` and `zero_of_class` give the value of a member or a base that isn't there.
-//! `as_version` gives a value with each object of a class, at any depth, in another version of the class; where each is in
-//! that version already, nothing changes (`same_version_stays`).
+//! `as_version` gives a value with each object of a class, at any depth, in another version of the class. Of classes that
+//! scripts can declare, a value that fits stays as it is in a version in which the class is known and in which all its objects
+//! in the value are (`same_version_stays`).
 //!
 //! The definitions stand in `Mapping` of `rio_model`; `specs/` has how the code cuts them up.
 #![tactic(auto)]

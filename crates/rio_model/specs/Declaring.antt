@@ -1,6 +1,7 @@
 -- Which classes may be declared, and what a declaration adds to the declared ones.
 use Rattle.std.specs.Prelude.{ℕ, zero, suc, ◌+◌, ℤ, pos, List, [], ◌∷◌, ◌++◌, length, map, Bool, true, false, not, ◌&&◌, ◌||◌, ◌==◌, nat_le, Option, Some, None, is_some, if◌then◌else◌, IsTrue, ◌↔◌}
 use Rattle.std.specs.{List.{list_all, list_any}, Option.{option_map_or, option_or}, Str.{bytes_eq}}
+use Rattle.rio_leaf.specs.declared.branch.Shape.{Shape, TheVariants.{Leaves, Class}}
 use Rattle.rio_types.specs.{Classes.{find_in, newest_in}, declared.class.Base.{Base}, declared.class.ClassDef.{ClassDef}}
 use Rattle.rio_types.specs.declared.kind.Kind.{Kind, TheVariants.{Inline, Pointer}}
 use Rattle.rio_format.specs.{Bodies.{headed_class, row_of}, declared.built_in.BuiltIn.TheVariants.{Named, Object}}
@@ -11,6 +12,11 @@ use Rattle.rio_model.specs.declared.declare.DeclareFault.{DeclareFault, TheVaria
 -- a class of the name is declared
 abbrev pub is_declared : List ClassDef → List ℕ → Bool
 is_declared classes name = list_any (λ c. bytes_eq c.name name) classes
+
+-- a branch of objects of a class that isn't declared
+abbrev pub shape_lacks_class : List ClassDef → Shape → Bool
+shape_lacks_class classes (Leaves leaves) = false
+shape_lacks_class classes (Class class) = not (is_declared classes class)
 
 -- declared, or the class that is being declared: its own name counts as declared
 abbrev pub is_known : List ClassDef → ClassDef → List ℕ → Bool

@@ -7,12 +7,15 @@ use Rattle.rio_chain.proofs.OneChain.{chain_one}
 use Rattle.rio_dir.specs.{Closed.{fault_of}, Table.{AreOrdered}, Unborn.{header_fault, is_unborn}}
 use Rattle.rio_machine.specs.State.{State, empty_state}
 use Rattle.rio_state.proofs.{OneReason.{reason_one}, StateFound.{state_found}}
-use Rattle.rio_state.specs.{Contents.{HasStateClasses, state_classes}, KeyedRecords.{info_key, keyed_records}, Reads.{ReadsAsMade, ReadsAsState}}
+use Rattle.rio_state.specs.{Closing.{item_heads}, Contents.{HasStateClasses, state_classes}, DirectoryKeys.{AreKeysOf}, KeyedRecords.{KeyedRecord, info_key, keyed_records, top_keys}, Reads.{ReadsAsMade, ReadsAsState}}
+use Rattle.rio_key.specs.declared.head.KeyHead.{KeyHead}
+use Rattle.std.specs.List.Sorted.{IsPermutation}
+use Rattle.std.proofs.lemmas.List.Sorted.{Contains-permutation, IsPermutation-sym}
 use Rattle.rio_state.specs.Reasons.{IsFirstReason, IsReasonOfMade, IsReasonOfSmall, ReasonAt, reason_at, room_reasons, state_reasons}
 use Rattle.rio_recover.specs.{Recovered.{AreItemsOf, IsAnswer, IsKeptOf, JudgesLinks, TellsAll, TellsFault}, Walked.{IsSmallHead, IsWalked, JudgesWalk}}
 use Rattle.rio_recover.specs.declared.fault.RecoverFault.{RecoverFault, TheVariants.{BadFile, ReadOnly, NoMemory, HostFault}}
 use Rattle.rio_recover.specs.{declared.recovery.Recovered.{Recovered}, declared.walked.Walked.{Walked}}
-use Rattle.rio_recover.proofs.NoTrees.{all_items}
+use Rattle.rio_recover.specs.TreeTable.{AreInOrder}
 
 -- ---- a file that is made
 
@@ -62,14 +65,23 @@ reason_chain file head links listed found small chain told first =
 
 -- ---- what is recovered
 
+keys_of : (records : List KeyedRecord) (heads : List KeyHead) → AreOrdered heads → IsPermutation (item_heads (top_keys records)) heads → AreKeysOf records heads
+keys_of records heads ordered moved = record {
+  ordered = ordered;
+  each = λ head. (
+    (λ c. Contains-permutation heads (item_heads (top_keys records)) head (IsPermutation-sym (item_heads (top_keys records)) heads moved) c),
+    (λ c. Contains-permutation (item_heads (top_keys records)) heads head moved c),
+  );
+}
+
 module _ (file : List ℕ) (made : is_unborn file ≡ false) (walked : Walked) (is : IsWalked file walked) where
-  first_none : (r : Recovered) → AreItemsOf (keyed_records is.links) r.registry r.table.heads → room_reasons is.links ≡ [] → IsFirstReason file None
+  first_none : (r : Recovered) → AreItemsOf (keyed_records is.links) r.registry r.table.heads r.trees → room_reasons is.links ≡ [] → IsFirstReason file None
   first_none r items room =
       first_made file made None (reason_chain file is.head is.links true None is.small is.chain.chain items.listed
       (sym (λ i. slice_get (items.none i ++ room i) 0)))
 
-  pub recovered : (r : Recovered) → IsKeptOf walked r → AreOrdered r.table.heads → JudgesLinks (Ok r) is.links → IsAnswer (Ok r) file
-  recovered r kept ordered judged =
+  pub recovered : (r : Recovered) → IsKeptOf walked r → AreOrdered r.table.heads → AreInOrder r.trees → JudgesLinks (Ok r) is.links → IsAnswer (Ok r) file
+  recovered r kept ordered named judged =
       let items = judged.0 in
       let none = first_none r items judged.1 in
       let found = state_found file None none tt in
@@ -84,7 +96,9 @@ module _ (file : List ℕ) (made : is_unborn file ≡ false) (walked : Walked) (
           links = is.links;
           chain = record { chain = is.chain.chain; same = kept.segments ∙ is.chain.same };
           classes = classes;
-          keys = all_items (keyed_records is.links) r.registry r.table.heads ordered items;
+          keys = keys_of (keyed_records is.links) r.table.heads ordered items.heads_are;
+          trees = record { ordered = named; each = items.trees_are };
+          headers = items.headers;
           info = judged.2.info;
           garbage = judged.2.garbage;
           name = judged.2.name;

@@ -1,17 +1,17 @@
 -- What is recovered, without its garbage.
-use Rattle.std.proofs.Common.{◌≡◌, ◌∙◌, inl, inr, ℕ, ◌+◌, ◌<◌, ◌≤◌, ◌||◌, Bool, true, false, cond, not, ◌==◌, List, [], ◌∷◌, codes, map, length, get_or, Option, Some, None, refl, sym, ap, subst, arith}
-use Rattle.std.proofs.lemmas.{Bool.{and_from, eq-eqb, ne_eqb}, List.{Elements.{All-head}, Sorted.{All-permutation, length_permutation}, Sums.{AllPass-from_list_all, list_all-from_AllPass}}}
-use Rattle.std.specs.{List.{All, filter, list_all}, Option.{IfSome}}
+use Rattle.std.proofs.Common.{◌≡◌, ◌∙◌, inl, inr, ℕ, ◌+◌, ◌<◌, ◌≤◌, ◌||◌, ◌&&◌, Bool, true, false, cond, not, ◌==◌, List, [], ◌∷◌, codes, map, length, get_or, Option, Some, None, refl, sym, ap, subst, arith}
+use Rattle.std.proofs.lemmas.{Bool.{and_from, eq-eqb, eqb-true, ne_eqb}, List.{Elements.{All-head}, Sorted.{All-permutation, length_permutation}, Sums.{AllPass-from_list_all, list_all-from_AllPass}}}
+use Rattle.std.specs.{List.{All, filter, list_all, list_any}, Option.{IfSome}}
 use Rattle.rio_key.specs.declared.head.KeyHead.{KeyHead}
 use Rattle.rio_chain.specs.{Adjoining.{AreSegments}, Changes.{without_record}, Found.{IsShortKey}, Placing.{file_end, record_count}, Releasing.{without_segment}, declared.segment.Segment.{Segment, TheVariants.{Record, Gap}}}
 use Rattle.rio_chain.proofs.{Freed.{map_without}, Freeing.{link_for, links_for}, PutChain.{map_end}}
-use Rattle.rio_state.specs.{Closing.{close_need, name_in}, KeyedRecords.{is_top_key}}
-use Rattle.rio_state.proofs.{LessNeeds.{end_less}, Members.{In, all_at, in_filter, filter_in}}
-use Rattle.rio_recover.specs.{Checks.{is_untitled}, Cleaning.{AreReleasable, AreRising, IsCleaned, without_segments}, Closable.{IsClosable, is_fit_key, is_placed, is_sized, kept_with, list_count, name_limit}}
+use Rattle.rio_state.specs.{Closing.{close_need, name_in}, KeyedRecords.{KeyedRecord, has_class, is_top_key, top_keys}}
+use Rattle.rio_state.proofs.{LessNeeds.{end_less}, Members.{In, all_at, any_from, in_filter, filter_in, passing}}
+use Rattle.rio_recover.specs.{Checks.{is_item_key, is_untitled}, Cleaning.{AreReleasable, AreRising, IsCleaned, without_segments}, Closable.{IsClosable, begins_at, is_fit_key, is_placed, is_sized, kept_with, list_count, name_limit}}
 use Rattle.rio_chain.specs.Keyed.{AreKeyed, IsRecordKey}
-use Rattle.rio_recover.specs.{Keys.{keyed_by}, Recovered.{HasRoomBehind, is_left_over, kept_by, place_in, places_left}, Whole.{BeginsWithFile, HoldsDirectory, IsWhole}, declared.recovery.Recovered.{Recovered}}
-use Rattle.rio_recover.proofs.Closables.{HeadsRise, IsPlaced, heads_left, keyed_count, keyed_left, keyed_there, places_rise, places_there, rises}
-use Rattle.rio_recover.proofs.{KeySizes.{file_name, fit_key, sized_key}, Keyed.{info_head_keyed}, Owned.{IsListKey, is_kept, kept_count, list_found, owned_by, owner}, RecordKeys.{keyed_all}, WholeFile.{all_items}}
+use Rattle.rio_recover.specs.{Keys.{HeadsRise, keyed_by}, Recovered.{HasRoomBehind, is_left_over, kept_by, other_count, place_in}, Trees.{places_of}, Whole.{BeginsWithFile, HoldsDirectory, IsWhole}, declared.recovery.Recovered.{Recovered}}
+use Rattle.rio_recover.proofs.Closables.{IsPlaced, heads_left, keyed_count, keyed_left, keyed_there, places_rise, places_there, rises}
+use Rattle.rio_recover.proofs.{BasketKeys.{HasBasketKey, basket_key, baskets_count, same_key}, ItemsRead.{filter_both}, KeySizes.{file_name, fit_key, sized_key}, Keyed.{info_head_keyed}, Owned.{IsListKey, count_either, count_of, is_kept, is_own, is_plain, is_stored, kept_count, kept_parts, list_found, owned_by, owner, stored_apart}, RecordKeys.{keyed_all}, WholeFile.{all_items}}
 
 -- ---- END
 
@@ -51,11 +51,26 @@ module _ (r : Recovered) (w : IsWhole r) where
   abbrev info : ℕ
   info = place_in r.info
 
+  abbrev tops : List KeyedRecord
+  tops = top_keys (keyed_by w.heads)
+
+  abbrev baskets : List ℕ
+  baskets = places_of r.trees
+
+  abbrev dropped : KeyHead → Bool
+  dropped = is_left_over (top_keys (keyed_by w.heads)) (place_in r.info) (places_of r.trees)
+
+  abbrev places : List KeyHead → List ℕ
+  places hs = map (λ h. h.seek) (filter dropped hs)
+
+  abbrev stays : KeyHead → Bool
+  stays = is_kept (top_keys (keyed_by w.heads)) (place_in r.info) (places_of r.trees)
+
   abbrev left : List Segment
   left = without_segments r.garbage segments
 
   abbrev kept : List KeyHead
-  kept = filter (is_kept info) heads
+  kept = filter stays heads
 
   placed : IsPlaced IsRecordKey
   placed place n head key = key.0.1
@@ -85,24 +100,24 @@ module _ (r : Recovered) (w : IsWhole r) where
 
   pub releasable : AreReleasable segments r.garbage
   releasable = subst (AreReleasable segments) (sym w.garbage) (record {
-    there = places_there segments (is_left_over info) heads (keyed_there IsRecordKey placed segments heads w.keyed);
+    there = places_there segments dropped heads (keyed_there IsRecordKey placed segments heads w.keyed);
     rising = rising;
   })
     where
-      behind : (h : KeyHead) (hs : List KeyHead) → h.seek ≡ 100 → HeadsRise 101 hs → AreRising 100 (places_left info (h ∷ hs))
+      behind : (h : KeyHead) (hs : List KeyHead) → h.seek ≡ 100 → HeadsRise 101 hs → AreRising 100 (places (h ∷ hs))
       behind h hs at up =
-          let other : is_left_over info h ≡ false = ap (λ (q : ℕ). is_left_over info (record h { seek = q })) at in
-          subst (λ (b : Bool). AreRising 100 (map (λ k. k.seek) (cond b (h ∷ filter (is_left_over info) hs) (filter (is_left_over info) hs)))) (sym other) (places_rise 101 100 (is_left_over info) hs (omega arith) up)
+          let other : dropped h ≡ false = ap (λ (q : ℕ). dropped (record h { seek = q })) at in
+          subst (λ (b : Bool). AreRising 100 (map (λ k. k.seek) (cond b (h ∷ filter dropped hs) (filter dropped hs)))) (sym other) (places_rise 101 100 dropped hs (omega arith) up)
 
-      rising : AreRising 100 (places_left info heads)
-      rising = subst (λ (hs : List KeyHead). AreRising 100 (places_left info hs)) (sym begins.is) (behind begins.first begins.others begins.at begins.rise)
+      rising : AreRising 100 (places heads)
+      rising = subst (λ (hs : List KeyHead). AreRising 100 (places hs)) (sym begins.is) (behind begins.first begins.others begins.at begins.rise)
 
   -- each record that is left has one of the keys that are kept
   kept_keyed : AreKeyed IsRecordKey left kept
   kept_keyed =
       subst (λ (ps : List ℕ). AreKeyed IsRecordKey (without_segments ps segments) kept) (sym w.garbage)
-      (subst (AreKeyed IsRecordKey (without_segments (places_left info heads) segments)) (heads_left (is_left_over info) 100 heads rise)
-      (keyed_left IsRecordKey placed (places_left info heads) segments heads w.keyed))
+      (subst (AreKeyed IsRecordKey (without_segments (places heads) segments)) (heads_left dropped 100 heads rise)
+      (keyed_left IsRecordKey placed (places heads) segments heads w.keyed))
 
   there : list_all (is_placed left) kept ≡ true
   there = keyed_there IsRecordKey placed left kept kept_keyed
@@ -114,7 +129,7 @@ module _ (r : Recovered) (w : IsWhole r) where
     short : IsShortKey h
 
   good : All IsGoodKey r.table.heads
-  good = all_items IsGoodKey heads r.table.heads w.items (keyed_all IsRecordKey IsGoodKey (λ place n h key. record { small = key.0.0; short = key.1 }) segments heads w.keyed)
+  good = all_items IsGoodKey (is_item_key tops) heads r.table.heads w.items (keyed_all IsRecordKey IsGoodKey (λ place n h key. record { small = key.0.0; short = key.1 }) segments heads w.keyed)
 
   untitled : (k : ℕ) (d : KeyHead) → k < length r.table.heads → is_untitled (get_or r.table.heads k d) ≡ true
   untitled k d lt = AllPass-from_list_all is_untitled r.table.heads w.untitled k d lt
@@ -125,26 +140,67 @@ module _ (r : Recovered) (w : IsWhole r) where
   fit : list_all is_fit_key r.table.heads ≡ true
   fit = list_all-from_AllPass is_fit_key r.table.heads (λ k d lt. fit_key (get_or r.table.heads k d) (good k d lt).small (good k d lt).short (untitled k d lt))
 
-  kept_if_top : (h : KeyHead) → is_top_key h ≡ true → is_kept info h ≡ true
-  kept_if_top h top = ap (λ (b : Bool). not (not ((h.seek == 100) || (h.seek == info) || b))) top ∙ by (h.seek == 100) (h.seek == info)
+  kept_if_item : (h : KeyHead) → is_top_key h ≡ true → is_item_key tops h ≡ true → stays h ≡ true
+  kept_if_item h top item = kept_parts tops info baskets h ∙ (λ i. is_own_first (h.seek == 100) (h.seek == info) (is_own_is i) (is_stored baskets h)) ∙ by (h.seek == 100) (h.seek == info) (is_stored baskets h)
     where
-      by : (a b : Bool) → not (not (a || b || true)) ≡ true
-      by true b = refl
-      by false true = refl
-      by false false = refl
+      is_own_first : Bool → Bool → Bool → Bool → Bool
+      is_own_first a b c d = a || b || c || d
 
-  items_there : list_all (is_placed left) (filter is_top_key heads) ≡ true
-  items_there = by (filter is_top_key heads) (λ h i. i)
+      is_own_is : is_own tops h ≡ true
+      is_own_is = λ i. top i && item i
+
+      by : (a b d : Bool) → (a || b || true || d) ≡ true
+      by true b d = refl
+      by false true d = refl
+      by false false d = refl
+
+  abbrev items : List KeyHead
+  items = filter (is_item_key (top_keys (keyed_by w.heads))) (filter is_top_key w.heads)
+
+  items_there : list_all (is_placed left) items ≡ true
+  items_there = by items (λ h i. i)
     where
-      by : (hs : List KeyHead) → ((h : KeyHead) → In h hs → In h (filter is_top_key heads)) → list_all (is_placed left) hs ≡ true
+      by : (hs : List KeyHead) → ((h : KeyHead) → In h hs → In h items) → list_all (is_placed left) hs ≡ true
       by [] within = refl
       by (h ∷ hs) within =
-          let f = filter_in is_top_key h heads (within h (inl refl)) in
-          and_from _ _ (all_at (is_placed left) h kept there (in_filter (is_kept info) h heads f.0 (kept_if_top h f.1))) (by hs (λ k i. within k (inr i)))
+          let f = filter_in (is_item_key tops) h (filter is_top_key heads) (within h (inl refl)) in
+          let g = filter_in is_top_key h heads f.0 in
+          and_from _ _ (all_at (is_placed left) h kept there (in_filter stays h heads g.0 (kept_if_item h g.1 f.1))) (by hs (λ k i. within k (inr i)))
 
   table_there : list_all (is_placed left) r.table.heads ≡ true
   table_there = list_all-from_AllPass (is_placed left) r.table.heads
-      (All-permutation (λ h. is_placed left h ≡ true) (filter is_top_key heads) r.table.heads w.items (AllPass-from_list_all (is_placed left) (filter is_top_key heads) items_there))
+      (All-permutation (λ h. is_placed left h ≡ true) items r.table.heads w.items (AllPass-from_list_all (is_placed left) items items_there))
+
+  -- ---- the baskets
+
+  key_of : (p : ℕ) → In p baskets → HasBasketKey heads p
+  key_of p i = basket_key heads r.trees p w.baskets i
+
+  stored_kept : (h : KeyHead) → is_stored baskets h ≡ true → stays h ≡ true
+  stored_kept h e = kept_parts tops info baskets h ∙ or_last (is_plain tops info h) e
+    where
+      or_last : (a : Bool) {b : Bool} → b ≡ true → (a || b) ≡ true
+      or_last true e = refl
+      or_last false e = e
+
+  baskets_there : list_all (λ p. list_any (begins_at p) left) baskets ≡ true
+  baskets_there = by baskets (λ p i. i)
+    where
+      by : (ps : List ℕ) → ((p : ℕ) → In p ps → In p baskets) → list_all (λ p. list_any (begins_at p) left) ps ≡ true
+      by [] within = refl
+      by (p ∷ ps) within =
+          let i = within p (inl refl) in
+          let k = key_of p i in
+          let held : is_stored baskets k.key ≡ true = any_from (λ q. q == k.key.seek) p baskets i (eq-eqb p k.key.seek (sym k.at)) in
+          let placed_there = all_at (is_placed left) k.key kept there (in_filter stays k.key heads k.among (stored_kept k.key held)) in
+          and_from _ _ (ap (λ (q : ℕ). list_any (begins_at q) left) (sym k.at) ∙ placed_there) (by ps (λ q j. within q (inr j)))
+
+  stored_class : (h : KeyHead) → In h heads → is_stored baskets h ≡ true → has_class (codes "TBasket") h ≡ true
+  stored_class h i e =
+      let s = passing (λ q. q == h.seek) baskets e in
+      let k = key_of s.x s.among in
+      let one : k.key ≡ h = same_key 100 heads k.key h rise k.among i (k.at ∙ eqb-true s.x h.seek s.passes) in
+      ap (λ (x : KeyHead). has_class (codes "TBasket") x) (sym one) ∙ k.class
 
   -- ---- the class list
 
@@ -158,22 +214,30 @@ module _ (r : Recovered) (w : IsWhole r) where
       by None same is = tt
       by (Some l) same is =
           let at : info ≡ l.seek = ap place_in same in
-          all_at (is_placed left) l kept there (in_filter (is_kept info) l heads is.among (kept_list l (sym at)))
+          all_at (is_placed left) l kept there (in_filter stays l heads is.among (kept_list l (sym at)))
         where
-          kept_list : (l : KeyHead) → l.seek ≡ info → is_kept info l ≡ true
-          kept_list l at = ap (λ (b : Bool). not (not ((l.seek == 100) || b || is_top_key l))) (eq-eqb l.seek info at) ∙ either (l.seek == 100)
+          kept_list : (l : KeyHead) → l.seek ≡ info → stays l ≡ true
+          kept_list l at = kept_parts tops info baskets l ∙ ap (λ (b : Bool). (l.seek == 100) || b || is_own tops l || is_stored baskets l) (eq-eqb l.seek info at) ∙ either (l.seek == 100)
             where
-              either : (a : Bool) → not (not (a || true || is_top_key l)) ≡ true
+              either : (a : Bool) → (a || true || is_own tops l || is_stored baskets l) ≡ true
               either true = refl
               either false = refl
 
   -- ---- how many
 
-  count : record_count left ≡ 1 + list_count r.info + length r.table.heads
+  first_in : In begins.first heads
+  first_in = subst (In begins.first) (sym begins.is) (inl refl)
+
+  count : record_count left ≡ 1 + list_count r.info + length r.table.heads + length baskets
   count =
-      let c = subst (λ (hs : List KeyHead). length (filter (is_kept info) hs) ≡ 1 + list_count r.info + length (filter is_top_key hs)) (sym begins.is)
-      (kept_count begins.first begins.others r.info begins.at begins.class begins.rise (subst (λ (hs : List KeyHead). IfSome r.info (IsListKey hs)) begins.is list_key)) in
-      omega (arith, keyed_count IsRecordKey placed left kept kept_keyed, c, length_permutation (filter is_top_key heads) r.table.heads w.items)
+      let c = subst (λ (hs : List KeyHead). count_of (is_plain tops info) hs ≡ 1 + list_count r.info + count_of (is_own tops) hs) (sym begins.is)
+      (kept_count tops begins.first begins.others r.info begins.at begins.class begins.rise (subst (λ (hs : List KeyHead). IfSome r.info (IsListKey hs)) begins.is list_key)) in
+      let own : count_of (is_own tops) heads ≡ length r.table.heads =
+      ap length (sym (filter_both (is_item_key tops) is_top_key (is_own tops) (λ h. refl) heads)) ∙ sym (length_permutation items r.table.heads w.items) in
+      let parts = count_either (is_plain tops info) (is_stored baskets) stays heads (kept_parts tops info baskets)
+      (λ h i e. stored_apart tops heads rise begins.first first_in begins.class r.info list_key h i (stored_class h i e) begins.at) in
+      let many = baskets_count heads rise baskets w.once key_of in
+      omega (arith, keyed_count IsRecordKey placed left kept kept_keyed, c, own, parts, many)
 
   above : (h : KeyHead) → In h heads → 0 < h.seek
   above h i = by 100 heads (omega arith) rise i
@@ -202,30 +266,33 @@ module _ (r : Recovered) (w : IsWhole r) where
           let f = subst (λ (q : ℕ). FirstStays n (without_segments r.garbage (Record q n ∷ ss))) (sym shape.adjacent.0.there) (first_stays n 100 r.garbage ss (omega arith) releasable.rising) in
           subst (HoldsDirectory r.nbytes_name) (sym f.is) holds
 
-  pub closable : HasRoomBehind r → IsClosable left r.table.heads r.info r.name
+  pub closable : HasRoomBehind r → IsClosable left r.table.heads r.info baskets r.name
   closable room = record {
     sized = sized;
     fit = fit;
     placed = table_there;
     listed = list_there;
-    owned = owned_by IsRecordKey placed r.info r.table.heads left kept kept_keyed (λ h i. owner heads r.info r.table.heads h w.items (above h (filter_in (is_kept info) h heads i).0) i);
+    stored = baskets_there;
+    owned = owned_by IsRecordKey placed r.info r.table.heads baskets left kept kept_keyed (λ h i. owner tops heads r.info r.table.heads baskets h w.items (above h (filter_in stays h heads i).0) i);
     short = named;
     count = count;
     room =
-        let need : close_need (kept_with r.name r.table.heads (record_count left)) ≡ close_need (kept_by r) = ap (λ (n : ℕ). close_need (kept_with r.name r.table.heads n)) count in
+        let counted : record_count left ≡ other_count r.info r.trees + length r.table.heads = omega (arith, count) in
+        let need : close_need (kept_with r.name r.table.heads (record_count left)) ≡ close_need (kept_by r) = ap (λ (n : ℕ). close_need (kept_with r.name r.table.heads n)) counted in
         omega (arith, need, room.close, end_all r.garbage segments);
   }
 
 -- ---- once it is cleaned
 
 pub is_cleaned : (before after : Recovered) → IsWhole before → HasRoomBehind before → after.chain.segments ≡ without_segments before.garbage before.chain.segments → after.chain.spent ≡ false
-    → after.registry ≡ before.registry → after.table ≡ before.table → after.info ≡ before.info → after.name ≡ before.name → after.nbytes_name ≡ before.nbytes_name → IsCleaned before after
-is_cleaned before after w room segments fresh registry table info name nbytes_name =
+    → after.registry ≡ before.registry → after.table ≡ before.table → after.trees ≡ before.trees → after.info ≡ before.info → after.name ≡ before.name → after.nbytes_name ≡ before.nbytes_name → IsCleaned before after
+is_cleaned before after w room segments fresh registry table trees info name nbytes_name =
     record {
-      closable = subst (λ (x : List Segment × List KeyHead × Option KeyHead × List ℕ). IsClosable x.0 x.1 x.2 x.3) (λ i. (sym segments i, (sym table i).heads, sym info i, sym name i)) (closable before w room);
+      closable = subst (λ (x : List Segment × List KeyHead × Option KeyHead × List ℕ × List ℕ). IsClosable x.0 x.1 x.2 x.3 x.4) (λ i. (sym segments i, (sym table i).heads, sym info i, places_of (sym trees i), sym name i)) (closable before w room);
       fresh = fresh;
       registry = registry;
       table = table;
+      trees = trees;
       info = info;
       name = name;
       nbytes_name = nbytes_name;

@@ -5,18 +5,14 @@ use Rattle.std.specs.List.{filter, fold, list_all, list_any}
 use Rattle.rio_key.specs.declared.head.KeyHead.{KeyHead}
 use Rattle.rio_chain.specs.{Adjoining.{AreAdjacent}, Placing.{record_count}, Releasing.{with_free, without_segment}, declared.segment.Segment.{Segment, TheVariants.{Record, Gap}}}
 use Rattle.rio_chain.specs.Keyed.{AreKeyed}
-use Rattle.rio_recover.specs.{Cleaning.{AreRising, without_segments}, Closable.{begins_at, is_placed}}
+use Rattle.rio_recover.specs.{Cleaning.{AreRising, without_segments}, Closable.{begins_at, is_placed}, Keys.{HeadsRise}}
 
 -- ---- keys that rise by place
 
 abbrev pub IsPlaced : (ℕ → ℕ → KeyHead → Type 0) → Type 0
 IsPlaced P = (place n : ℕ) (head : KeyHead) → P place n head → head.seek ≡ place
 
-abbrev pub HeadsRise : ℕ → List KeyHead → Type 0
-HeadsRise p [] = Unit {0}
-HeadsRise p (h ∷ heads) = (p ≤ h.seek) × HeadsRise (h.seek + 1) heads
-
-rise_later : (p q : ℕ) (heads : List KeyHead) → p ≤ q → HeadsRise q heads → HeadsRise p heads
+pub rise_later : (p q : ℕ) (heads : List KeyHead) → p ≤ q → HeadsRise q heads → HeadsRise p heads
 rise_later p q [] le rise = tt
 rise_later p q (h ∷ heads) le rise = (omega (arith, le, rise.0), rise.1)
 

@@ -1,7 +1,7 @@
 -- Classes that commands have declared, in a class list.
 use Rattle.std.proofs.Common.{◌≡◌, ◌∙◌, ℕ, ◌+◌, ◌<◌, ◌≤◌, add-one, drop-cons, get_or, List, [], ◌∷◌, ◌++◌, append_assoc, codes, length, take, drop, Bool, true, false, not, Some, None, Ok, Err, refl, sym, ap, subst, IsTrue, arith}
 use Rattle.std.proofs.{Math.Seq.{drop-append_seam}, lemmas.List.{drop_all, take_all, take_more}}
-use Rattle.std.specs.Prelude.{◌↔◌}
+use Rattle.std.specs.{Prelude.{◌↔◌}, Result.{result_unwrap_or}}
 use Rattle.rio_types.specs.declared.class.ClassDef.{ClassDef}
 use Rattle.rio_buffer.specs.declared.fault.ObjFault.{ObjFault}
 use Rattle.rio_format.specs.TreeClasses.{tree_classes, written_classes}
@@ -9,7 +9,7 @@ use Rattle.rio_info.proofs.ListGrowth.{last_length_decides}
 use Rattle.rio_model.specs.{Declaring.{declare_fault, declared, is_reserved_name}, Stated.{is_stated_class}}
 use Rattle.rio_model.specs.StateClasses.{AreAccepted, AreDeclared, HasShortList, IsDeclared, StateClasses}
 use Rattle.rio_state.specs.{Contents.{IsStateList, classes_behind, described_in, state_classes}, KeyedRecords.{KeyedRecord}}
-use Rattle.rio_recover.specs.Classes.{AreClassesOf, AreListedForState}
+use Rattle.rio_recover.specs.{Classes.{AreClassesOf, AreListedForState}, declared.classes.ListedClasses.{ListedClasses}}
 
 -- ---- classes that are declared one after the other
 
@@ -37,10 +37,10 @@ next_declared before class stated free allowed bases = record {
 pub list_classes : (r : KeyedRecord) (classes : List ClassDef) → described_in r ≡ Ok (written_classes classes) → state_classes (Some r) ≡ classes
 list_classes r classes is = ap classes_behind is ∙ drop-append_seam tree_classes classes
 
-pub is_list : (r : KeyedRecord) (classes : List ClassDef) → IsStateList r classes → AreClassesOf (Some r) (Some classes)
-is_list r classes is =
-    let same = list_classes r classes is.list in
-    (subst (IsStateList r) (sym same) is, sym same)
+pub is_list : (r : KeyedRecord) (classes : ListedClasses) → described_in r ≡ Ok classes.described → IsStateList r classes.registry → AreClassesOf (Some r) (Some classes)
+is_list r classes described is =
+    let same = list_classes r classes.registry is.list in
+    (subst (IsStateList r) (sym same) is, λ i. record { described = result_unwrap_or (sym described i) []; declared = sym same i })
 
 -- a registry has declared the classes up to an index
 pub record DeclaringSoFar (classes : List ClassDef) (k : ℕ) (registry : List ClassDef) : Type 0 where

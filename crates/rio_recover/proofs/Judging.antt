@@ -18,6 +18,13 @@ judges_on (ReadOnly place reason) xs ys P Q j = first_in xs ys (reason_at place 
 judges_on NoMemory xs ys P Q j = tt
 judges_on HostFault xs ys P Q j = tt
 
+-- the same fault, whatever is asked for
+pub judges_again : {X Y : Type 0} (e : RecoverFault) (xs : List ReasonAt) (P : X → Type 0) (Q : Y → Type 0) → Judges (Err e) xs P → Judges (Err e) xs Q
+judges_again (BadFile place kind) xs P Q j = j
+judges_again (ReadOnly place reason) xs P Q j = j
+judges_again NoMemory xs P Q j = tt
+judges_again HostFault xs P Q j = tt
+
 -- behind a part without reasons
 pub judges_behind : {X : Type 0} (r : Result X RecoverFault) (xs ys : List ReasonAt) (P : X → Type 0) → xs ≡ [] → Judges r ys P → Judges r (xs ++ ys) P
 judges_behind r xs ys P none j = subst (λ (zs : List ReasonAt). Judges r (zs ++ ys) P) (sym none) j

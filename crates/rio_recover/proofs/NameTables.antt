@@ -58,9 +58,9 @@ note_object tops names head new put tree told table before = record {
 
 -- ---- look-ups
 
-pub mixed_by : (tops : List KeyedRecord) (names : NameIndex) (name : List ℕ) (tree object : Bool) → IndexesNames tops names
-    → tree ≡ is_some (find (is_of_name name) names.trees.heads) → object ≡ is_some (find (is_of_name name) names.objects.heads) → (tree && object) ≡ is_mixed_name tops name
-mixed_by tops names name tree object is t o =
+pub mixed_by : (tops : List KeyedRecord) (names : NameIndex) (name : List ℕ) (has_tree has_object : Bool) → IndexesNames tops names
+    → has_tree ≡ is_some (find (is_of_name name) names.trees.heads) → has_object ≡ is_some (find (is_of_name name) names.objects.heads) → (has_tree && has_object) ≡ is_mixed_name tops name
+mixed_by tops names name has_tree has_object is t o =
     let test : NameAndCycle → Bool = λ item. bytes_eq item.0 name in
     let trees = t ∙ some_found (is_of_name name) names.trees.heads ∙ is.of_trees test in
     let objects = o ∙ some_found (is_of_name name) names.objects.heads ∙ is.of_objects test in

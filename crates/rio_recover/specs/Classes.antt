@@ -4,12 +4,16 @@ use Rattle.rio_types.specs.declared.class.ClassDef.{ClassDef}
 use Rattle.rio_key.specs.declared.head.KeyHead.{KeyHead}
 use Rattle.rio_format.specs.TreeClasses.{written_classes}
 use Rattle.rio_model.specs.StateClasses.{StateClasses}
-use Rattle.rio_state.specs.{Contents.{HasStateClasses, state_classes}, KeyedRecords.{KeyedRecord}}
+use Rattle.rio_state.specs.{Contents.{FileClasses, HasStateClasses, file_classes}, KeyedRecords.{KeyedRecord}}
+use Rattle.rio_recover.specs.declared.classes.ListedClasses.{ListedClasses}
+
+abbrev pub classes_in : ListedClasses → FileClasses
+classes_in classes = record { described = classes.described; declared = classes.registry }
 
 -- these are the classes of a file with this class list that counts, or they have no reading
-abbrev pub AreClassesOf : Option KeyedRecord → Option (List ClassDef) → Type 0
+abbrev pub AreClassesOf : Option KeyedRecord → Option ListedClasses → Type 0
 AreClassesOf info None = ¬ HasStateClasses info
-AreClassesOf info (Some classes) = HasStateClasses info × (classes ≡ state_classes info)
+AreClassesOf info (Some classes) = HasStateClasses info × (classes_in classes ≡ file_classes info)
 
 -- the classes of trees, and then those of a state
 abbrev pub AreListedForState : List ClassDef → Type 0

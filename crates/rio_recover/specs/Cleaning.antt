@@ -5,9 +5,9 @@ use Rattle.rio_key.specs.declared.head.KeyHead.{KeyHead}
 use Rattle.rio_host.specs.Host.{View}
 use Rattle.rio_chain.specs.{Chains.{HasChain}, Changes.{without_record}, Releasing.{without_segment}, Segments.{IsChain, Link}, Stops.{IsSaidText, KeepsFront}, declared.segment.Segment.{Segment}}
 use Rattle.rio_machine.specs.State.{State}
-use Rattle.rio_state.specs.{Cleaning.{unreferred}, Closing.{kept_in, name_in}, DirectoryKeys.{AreKeysOf}, KeyedRecords.{info_key, keyed_records}}
-use Rattle.rio_state.specs.{OneLess.{NeedsNoMore}, Reads.{AreRecordsOf}}
-use Rattle.rio_recover.specs.{Closable.{IsClosable, begins_at}, Recovered.{garbage_of}, Whole.{HoldsDirectory}, declared.recovery.Recovered.{Recovered}}
+use Rattle.rio_state.specs.{Cleaning.{unreferred}, Closing.{kept_with, name_in}, DirectoryKeys.{AreKeysOf}, KeyedRecords.{info_key, keyed_records, top_keys, tree_records}}
+use Rattle.rio_state.specs.{OneLess.{NeedsNoMore}, Reads.{AreRecordsOf}, TreeLengths.{PendingRows}}
+use Rattle.rio_recover.specs.{Closable.{IsClosable, begins_at}, Recovered.{garbage_of}, Trees.{places_of}, Whole.{HoldsDirectory}, declared.recovery.Recovered.{Recovered}}
 
 -- the links without the records at these places, one after the other
 abbrev pub without_all : List ℕ → List Link → List Link
@@ -40,15 +40,16 @@ pub record IsCleaning (v : View) (file : List ℕ) (m : State) (image said : Lis
   pub front : KeepsFront file image
   pub text : IsSaidText v said
 
--- What the records without garbage have of those of before: they stand for the same state, with the same keys, class list and name, and
--- hold no more. Something refers to each of them.
+-- What the records without garbage have of those of before: they stand for the same state, with the same keys, class list, headers and name, and
+-- whatever rows are pending they keep the same and hold no more. Something refers to each of them.
 pub record IsCleanOf (before after : List Link) : Type 0 where
   pub records : (m : State) → AreRecordsOf (keyed_records before) m → AreRecordsOf (keyed_records after) m
   pub keys : (heads : List KeyHead) → AreKeysOf (keyed_records before) heads → AreKeysOf (keyed_records after) heads
   pub info : info_key (keyed_records after) ≡ info_key (keyed_records before)
+  pub headers : tree_records (top_keys (keyed_records after)) ≡ tree_records (top_keys (keyed_records before))
   pub name : name_in (keyed_records after) ≡ name_in (keyed_records before)
-  pub kept : kept_in after ≡ kept_in before
-  pub need : NeedsNoMore before after
+  pub kept : (pending : PendingRows) → kept_with pending after ≡ kept_with pending before
+  pub need : (pending : PendingRows) → NeedsNoMore pending before after
   pub none : unreferred (keyed_records after) ≡ []
 
 -- The host holds the file without its garbage, in these segments, and its first 100 bytes are those of before.
@@ -65,10 +66,11 @@ HoldsCleaned v file links r = HoldsCleanedIn v file links r.chain.segments
 
 -- What is kept when the garbage is released: all but the chain is as before, and it can be closed, whatever the host tells.
 pub record IsCleaned (before after : Recovered) : Type 0 where
-  pub closable : IsClosable after.chain.segments after.table.heads after.info after.name
+  pub closable : IsClosable after.chain.segments after.table.heads after.info (places_of after.trees) after.name
   pub fresh : after.chain.spent ≡ false
   pub registry : after.registry ≡ before.registry
   pub table : after.table ≡ before.table
+  pub trees : after.trees ≡ before.trees
   pub info : after.info ≡ before.info
   pub name : after.name ≡ before.name
   pub nbytes_name : after.nbytes_name ≡ before.nbytes_name

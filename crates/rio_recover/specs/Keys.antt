@@ -1,5 +1,5 @@
 -- Records by their keys.
-use Rattle.std.specs.{Prelude.{◌≡◌, ℕ, ◌+◌, ◌^◌, ◌<◌, ◌≤◌, List, [], length, map, pos}, Int.{w32, cast_unsigned}, List.{All}}
+use Rattle.std.specs.{Prelude.{◌≡◌, ℕ, ◌+◌, ◌^◌, ◌<◌, ◌≤◌, List, [], ◌∷◌, length, map, pos}, Int.{w32, cast_unsigned}, List.{All}}
 use Rattle.rio_host.specs.{Host.{View}, Image.{Has}}
 use Rattle.rio_chain.specs.Walks.{Told}
 use Rattle.rio_key.specs.declared.head.KeyHead.{KeyHead}
@@ -19,6 +19,14 @@ record_heads records = map (λ r. r.head) records
 -- the place behind the record of a key
 abbrev pub record_end : KeyHead → ℕ
 record_end head = head.seek + cast_unsigned w32 head.nbytes
+
+-- the records begin one behind the other, from this place on
+abbrev pub HeadsRise : ℕ → List KeyHead → Type 0
+HeadsRise p [] = Unit {0}
+HeadsRise p (h ∷ heads) = (p ≤ h.seek) × HeadsRise (h.seek + 1) heads
+
+abbrev pub AreInPlace : List KeyHead → Type 0
+AreInPlace heads = HeadsRise 0 heads
 
 -- the record stands where its key says, and is as long
 pub record StandsIn (file : List ℕ) (r : KeyedRecord) : Type 0 where

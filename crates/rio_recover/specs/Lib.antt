@@ -1,3 +1,4 @@
+pub mod Baskets
 pub mod Causes
 pub mod Checks
 pub mod Classes
@@ -6,5 +7,7 @@ pub mod Closable
 pub mod Keys
 pub mod Names
 pub mod Recovered
+pub mod TreeTable
+pub mod Trees
 pub mod Walked
 pub mod Whole

@@ -25,6 +25,13 @@ use rio_registry::{Registry, is_reserved_name};
 use rio_types::{Base, ClassDef, Classes};
 use std::alloc::Global;
 
+/// The classes of a file: all that its class list describes, those of trees too, and those that commands declared.
+#[derive(Drop)]
+pub(crate) struct ListedClasses {
+    pub(crate) described: Classes,
+    pub(crate) registry: Registry,
+}
+
 // How long the data of a class list may be.
 const LENGTH_LIMIT: u64 = 16_777_216;
 
@@ -134,7 +141,11 @@ fn has_cycle_of(registry: &Registry, cycle: u16) -> bool
 }
 
 // The classes that the class list with this key and these bytes stands for, or None.
-fn listed_classes(alloc: Global, head: &KeyHead, bytes: &[u8]) -> Result<Option<Registry>, NoMemory>
+fn listed_classes(
+    alloc: Global,
+    head: &KeyHead,
+    bytes: &[u8],
+) -> Result<Option<ListedClasses>, NoMemory>
     requires { length bytes.now < 2 ^ 32 }
     ensures { IfOk result
         (AreClassesOf (Some (record { head = head.now; bytes = bytes.now }))) }
@@ -148,7 +159,10 @@ fn listed_classes(alloc: Global, head: &KeyHead, bytes: &[u8]) -> Result<Option<
         Err(_) => return Ok(None),
     };
     match accept_all(alloc, &classes)? {
-        Some(registry) if has_cycle_of(&registry, head.cycle) => Ok(Some(registry)),
+        Some(registry) if has_cycle_of(&registry, head.cycle) => Ok(Some(ListedClasses {
+            described: classes,
+            registry,
+        })),
         _ => Ok(None),
     }
 }
@@ -159,16 +173,16 @@ pub(crate) fn read_classes<H: Host>(
     alloc: Global,
     host: &mut H,
     info: Option<&KeyHead>,
-) -> Result<Option<Registry>, RecoverFault>
+) -> Result<Option<ListedClasses>, RecoverFault>
     requires { IfSome (option_copied info)
         (λ head. IsWithin (H.view host.old) (record_end head)) }
     ensures classes { (file : List ℕ) (found : Option KeyedRecord)
         → (H.view host.old).holds ≡ Some file → IfSome found (StandsIn file)
         → option_map (λ r. r.head) found ≡ option_copied info.entry
         → Obtains result (AreClassesOf found) }
-    ensures state { IfOk result (λ classes. IfSome classes StateClasses) }
-    ensures listed { IfOk result
-        (λ classes. IfSome classes (HasListCycle (option_copied info.entry))) }
+    ensures state { IfOk result (λ found. IfSome found (λ classes. StateClasses classes.registry)) }
+    ensures listed { IfOk result (λ found. IfSome found
+        (λ classes. HasListCycle (option_copied info.entry) classes.registry)) }
     ensures calls { OnlyReads (H.view host.old) (H.view host.new) }
     ensures cause { IsRecoverCause (H.view host.old) (H.view host.new) result }
 {
@@ -177,6 +191,9 @@ pub(crate) fn read_classes<H: Host>(
             let bytes = record_bytes(alloc, host, head)?;
             Ok(listed_classes(alloc, head, &bytes)?)
         }
-        None => Ok(Some(Registry::new(alloc))),
+        None => Ok(Some(ListedClasses {
+            described: Classes::new(alloc),
+            registry: Registry::new(alloc),
+        })),
     }
 }

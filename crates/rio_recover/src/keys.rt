@@ -13,7 +13,8 @@ use rio_key::KeyHead;
 // The place of the first record, and of the directory that it holds.
 const FIRST_PLACE: u64 = 100;
 
-fn has_class(head: &KeyHead, class: &[u8]) -> bool
+/// Whether the record is of this class.
+pub(crate) fn has_class(head: &KeyHead, class: &[u8]) -> bool
     ensures { result ≡ has_class class.now head.now }
 {
     head.class.as_slice() == class

@@ -48,8 +48,8 @@ pub(crate) fn record_bytes<H: Host>(
     Ok(bytes_at(alloc, host, head.seek, length as usize)?)
 }
 
-// Whether at most three bytes are left, and each is zero. They are read.
-fn is_padding(reader: &mut ObjReader) -> bool
+/// Whether at most three bytes are left, and each is zero. They are read.
+pub(crate) fn is_padding(reader: &mut ObjReader) -> bool
     ensures { result ≡ is_padding reader.old.at.rest }
 {
     if reader.left() > 3 {

@@ -1,8 +1,7 @@
 //! A file is recovered.
-ghost use Rattle.std.specs.Prelude.{◌≡◌, ◌+◌, ◌<◌, ◌≤◌, ◌^◌, false, true, ℕ, List, Some, IfOk};
-ghost use Rattle.std.specs.List.{All, filter, list_all};
-ghost use Rattle.std.specs.List.Sorted.{IsPermutation};
-ghost use Rattle.std.specs.Option.{option_copied, option_map, option_map_or};
+ghost use Rattle.std.specs.Prelude.{◌≡◌, ◌<◌, ◌≤◌, ◌^◌, ◌&&◌, false, ℕ, List, Some, IfOk};
+ghost use Rattle.std.specs.List.{All, filter};
+ghost use Rattle.std.specs.Option.{option_copied, option_map};
 ghost use Rattle.rio_host.specs.OnlyReads.{OnlyReads};
 ghost use Rattle.rio_chain.specs.Adjoining.{AreSegments};
 ghost use Rattle.rio_chain.specs.Chains.{HasChain};
@@ -16,18 +15,23 @@ ghost use Rattle.rio_model.specs.StateClasses.{StateClasses};
 ghost use Rattle.rio_state.specs.Closing.{end_limit, name_in};
 ghost use Rattle.rio_state.specs.KeyedRecords.{KeyedRecord, info_key, is_top_key, keyed_records};
 ghost use Rattle.rio_recover.specs.Causes.{IsRecoverCause};
-ghost use Rattle.rio_recover.specs.Checks.{is_untitled};
+ghost use Rattle.rio_recover.specs.Baskets.{HasPlaces};
+ghost use Rattle.rio_recover.specs.Checks.{HasChecked, is_item_key};
+ghost use Rattle.rio_recover.specs.Names.{IndexesNames};
+ghost use Rattle.rio_recover.specs.TreeTable.{AreInOrder};
 ghost use Rattle.rio_recover.specs.Classes.{HasListCycle};
-ghost use Rattle.rio_recover.specs.Keys.{AreWithin, StandsIn, keyed_by, record_heads};
+ghost use Rattle.rio_recover.specs.Keys.{AreInPlace, AreWithin, StandsIn, keyed_by, record_heads};
 ghost use Rattle.rio_recover.specs.Walked.{IsWholeWalk};
 ghost use Rattle.rio_recover.specs.Whole.{IsWhole};
 ghost use Rattle.rio_recover.specs.Recovered.{AreParts, HasRoomBehind, IsAnswer, IsKeptOf, JudgesLinks, JudgesState, TellsAll, is_left_over, place_in, places_left};
 
 use crate::RecoverFault;
 use crate::classes::read_classes;
-use crate::judge::check_keys;
+use crate::judge::{KeyCheck, check_keys};
 use crate::keys::{check_directory, info_head, is_top_key};
-use crate::room::check_room;
+use crate::room::{check_room, count_others};
+use crate::tree::FileKeys;
+use crate::trees::Trees;
 use crate::walked::{Walked, walk_file};
 use rio_chain::{Chain, end_of};
 use rio_dir::KeyTable;
@@ -39,14 +43,16 @@ use rio_registry::Registry;
 use std::alloc::Global;
 
 /// What a file has whose bytes read as a state.
-#[derive(Debug, Drop)]
+#[derive(Drop)]
 pub struct Recovered {
     /// Its segments, with room for the release of the garbage.
     pub chain: Chain,
     /// The classes of the state.
     pub registry: Registry,
-    /// The keys of its objects and trees.
+    /// The keys of its objects and trees: of each name of trees that of the greatest cycle.
     pub table: KeyTable,
+    /// Its trees, with what their headers say.
+    pub trees: Trees,
     /// The key of the class list that counts.
     pub info: Option<KeyHead>,
     /// The places of the records that nothing refers to, in order.
@@ -57,11 +63,14 @@ pub struct Recovered {
     pub nbytes_name: u32,
 }
 
-// The classes of a state, and the keys of its items.
+// Where the first record stands.
+const FIRST_PLACE: u64 = 100;
+
+// The classes of a state, and what is known of the keys of its items.
 #[derive(Drop)]
 struct ReadState {
     registry: Registry,
-    table: KeyTable,
+    check: KeyCheck,
 }
 
 // Where the class list stands, and 0 where there is none.
@@ -74,20 +83,43 @@ fn place_of(info: Option<&KeyHead>) -> u64
     }
 }
 
-// Whether the record is neither the first nor that of the class list at this place, and no item's.
-fn is_left_over(head: &KeyHead, info: u64) -> bool
-    ensures { result ≡ is_left_over info head.now }
+// Whether the record is an item's.
+fn is_item_record(head: &KeyHead, check: &KeyCheck) -> bool
+    ensures { (tops : List KeyedRecord) → IndexesNames tops check.now.names
+        → result ≡ (is_top_key head.now && is_item_key tops head.now) }
 {
-    head.seek != 100 && head.seek != info && !is_top_key(head)
+    is_top_key(head) && check.is_item(head)
 }
 
-// The places of the records that nothing refers to, where none of them is a tree's.
-fn garbage_of(alloc: Global, heads: &[KeyHead], info: u64) -> Result<Places, NoMemory>
-    ensures { IfOk result (λ places. places ≡ places_left info heads.now) }
+// Whether the record is neither the first nor that of the class list at this place, no item's, and no basket of a tree.
+fn is_left_over(head: &KeyHead, info: u64, check: &KeyCheck) -> bool
+    ensures { (tops : List KeyedRecord) (baskets : List ℕ) → IndexesNames tops check.now.names
+        → HasPlaces baskets check.now.named
+        → result ≡ is_left_over tops info baskets head.now }
+{
+    if head.seek == FIRST_PLACE {
+        return false;
+    }
+    if head.seek == info {
+        return false;
+    }
+    !is_item_record(head, check) && !check.named.has(head.seek)
+}
+
+// The places of the records that nothing refers to.
+fn garbage_of(
+    alloc: Global,
+    heads: &[KeyHead],
+    info: u64,
+    check: &KeyCheck,
+) -> Result<Places, NoMemory>
+    ensures { IfOk result (λ places. (tops : List KeyedRecord) (baskets : List ℕ)
+        → IndexesNames tops check.now.names → HasPlaces baskets check.now.named
+        → places ≡ places_left tops info baskets heads.now) }
 {
     let mut places = Places::new(alloc);
     for head in heads {
-        if is_left_over(head, info) {
+        if is_left_over(head, info, check) {
             places.push(head.seek)?;
         }
     }
@@ -113,8 +145,8 @@ fn name_of(alloc: Global, heads: &[KeyHead]) -> Result<Name, NoMemory>
     }
 }
 
-// The classes and the keys of the state that the records of these keys stand for, or the first reason
-// why they stand for none.
+// The classes and the items of the state that the records of these keys stand for, or the first reason why they stand
+// for none.
 fn read_state<H: Host>(
     alloc: Global,
     host: &mut H,
@@ -122,42 +154,38 @@ fn read_state<H: Host>(
     info: Option<&KeyHead>,
 ) -> Result<ReadState, RecoverFault>
     requires within { AreWithin (H.view host.old) heads.now }
+    requires rising { AreInPlace heads.now }
     requires info { option_copied info
         ≡ option_map (λ r. r.head) (info_key (keyed_by heads.now)) }
     ensures told { (file : List ℕ) (records : List KeyedRecord)
         → (H.view host.old).holds ≡ Some file → All (StandsIn file) records
         → heads.now ≡ record_heads records → JudgesState result records }
-    ensures items { IfOk result
-        (λ state. IsPermutation (filter is_top_key heads.now) state.table.heads) }
-    ensures untitled { IfOk result (λ state. list_all is_untitled state.table.heads ≡ true) }
+    ensures checked { IfOk result
+        (λ state. HasChecked heads.now (filter is_top_key heads.now) state.check) }
     ensures classes { IfOk result (λ state. StateClasses state.registry) }
     ensures listed { IfOk result
         (λ state. HasListCycle (option_copied info.entry) state.registry) }
     ensures calls { OnlyReads (H.view host.old) (H.view host.new) }
     ensures cause { IsRecoverCause (H.view host.old) (H.view host.new) result }
 {
-    let classes = read_classes(alloc, host, info)?;
+    let found = read_classes(alloc, host, info)?;
     check_directory(heads)?;
-    match classes {
-        Some(registry) => {
-            let table = check_keys(alloc, host, registry.classes(), heads)?;
-            Ok(ReadState { registry, table })
+    match found {
+        Some(classes) => {
+            let keys = FileKeys {
+                classes: &classes,
+                heads,
+            };
+            let check = check_keys(alloc, host, &keys)?;
+            Ok(ReadState {
+                registry: classes.registry,
+                check,
+            })
         }
         None => Err(RecoverFault::ReadOnly {
             place: place_of(info),
             reason: Reason::BadInfo,
         }),
-    }
-}
-
-// How many records are kept beside those of items: the first, and the class list.
-fn count_others(info: Option<&KeyHead>) -> u64
-    ensures value { result ≡ 1 + option_map_or (λ head. 1) (option_copied info.entry) 0 }
-    ensures few { result ≤ 2 }
-{
-    match info {
-        Some(_) => 2,
-        None => 1,
     }
 }
 
@@ -172,15 +200,24 @@ fn gather(
     requires shape { AreSegments walked.segments }
     requires low { file_end walked.segments ≤ end_limit }
     ensures parts { IfOk result (AreParts walked name info state) }
-    ensures garbage { IfOk result (λ r. r.garbage ≡ places_left (place_in info) walked.heads) }
+    ensures garbage { IfOk result (λ r. (tops : List KeyedRecord) (baskets : List ℕ)
+        → IndexesNames tops state.check.names → HasPlaces baskets state.check.named
+        → r.garbage ≡ places_left tops (place_in info) baskets walked.heads) }
 {
-    let garbage = garbage_of(alloc, walked.heads.as_slice(), place_of(info.as_ref()))?;
+    let garbage = garbage_of(
+        alloc,
+        walked.heads.as_slice(),
+        place_of(info.as_ref()),
+        &state.check,
+    )?;
     let mut chain = Chain::from_segments(walked.segments)?;
     chain.reserve(garbage.len() as u64)?;
+    let ReadState { registry, check } = state;
     Ok(Recovered {
         chain,
-        registry: state.registry,
-        table: state.table,
+        registry,
+        table: check.items,
+        trees: check.trees,
         info,
         garbage,
         name,
@@ -204,6 +241,7 @@ fn recover_walked<H: Host>(
     ensures kept { IfOk result (IsKeptOf walked) }
     ensures whole { IfOk result IsWhole }
     ensures ordered { IfOk result (λ r. AreOrdered r.table.heads) }
+    ensures named { IfOk result (λ r. AreInOrder r.trees) }
     ensures room { IfOk result HasRoomBehind }
     ensures calls { OnlyReads (H.view host.old) (H.view host.new) }
     ensures cause { IsRecoverCause (H.view host.old) (H.view host.new) result }
@@ -211,15 +249,16 @@ fn recover_walked<H: Host>(
     let heads = walked.heads.as_slice();
     let info = copy_of(info_head(heads))?;
     let state = read_state(alloc, host, heads, info.as_ref())?;
-    // Looked at so that its order is known to the proof.
-    let _ordered = state.table.as_slice();
+    // Looked at so that their order is known to the proof.
+    let _ordered = state.check.items.as_slice();
+    let _named = state.check.trees.as_slice();
     let name = name_of(alloc, heads)?;
     let end = end_of(walked.segments.as_slice());
     check_room(
         end,
         name.as_slice(),
-        &state.table,
-        count_others(info.as_ref()),
+        &state.check.items,
+        count_others(info.as_ref(), state.check.trees.as_slice()),
     )?;
     Ok(gather(alloc, walked, name, info, state)?)
 }

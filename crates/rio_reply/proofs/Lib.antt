@@ -1,2 +1,4 @@
+pub mod ItemListings
 pub mod Listings
+pub mod Scans
 pub mod Versions

@@ -1,12 +1,13 @@
 -- What is told by a key: a line of a listing, and what its record holds.
-use Rattle.std.specs.{Prelude.{ℕ, ℤ, List, ◌++◌, codes, length, Result, Ok, Err}, List.{flat_map}}
+use Rattle.std.specs.{Prelude.{ℕ, ℤ, List, ◌++◌, codes, length, Some, Result, Ok, Err}, List.{flat_map}}
 use Rattle.rio_types.specs.declared.class.ClassDef.{ClassDef}
 use Rattle.rio_value.specs.declared.value.Value.{Value}
 use Rattle.rio_buffer.specs.{Texts.{object_fault_text}, declared.fault.ObjFault.{ObjFault}}
 use Rattle.rio_key.specs.declared.head.KeyHead.{KeyHead}
 use Rattle.rio_num.specs.{Printed.{item_text, numbered}, Reading.{◌>>=◌}}
 use Rattle.rio_model.specs.{Mapping.{Mapped, as_version}, ValueText.{text_of_value}}
-use Rattle.rio_step.specs.{ItemKeys.{told_by_key}, ReplyText.{listed_text, text_of}, Step.{object_told}}
+use Rattle.rio_tree_table.specs.declared.table.KeptTree.{KeptTree}
+use Rattle.rio_step.specs.{ItemKeys.{told_by_key}, KeptItems.{listed_by, told_of_item}, ReplyText.{listed_text, text_of}, Step.{object_told}}
 
 -- NAME;CYCLE CLASS
 abbrev pub listed_line : KeyHead → List ℕ
@@ -15,6 +16,18 @@ listed_line head = item_text head.name head.cycle ++ codes " " ++ listed_text (t
 -- how many keys there are, and the line of each
 unfoldable pub listing_of : List KeyHead → List ℕ
 listing_of heads = codes "ok ls" ++ numbered (length heads) ++ codes "\n" ++ flat_map listed_line heads
+
+-- NAME;CYCLE TTree SAVED PENDING
+abbrev pub tree_line : KeyHead → KeptTree → List ℕ
+tree_line head tree = item_text head.name head.cycle ++ codes " " ++ listed_text (listed_by (Some tree) head) ++ codes "\n"
+
+-- the line of an object or, under the name of one of these trees, of a tree
+abbrev pub item_line : List KeptTree → KeyHead → List ℕ
+item_line trees head = item_text head.name head.cycle ++ codes " " ++ listed_text (told_of_item trees head).1 ++ codes "\n"
+
+-- how many keys there are, and the line of each
+unfoldable pub item_listing_of : List KeptTree → List KeyHead → List ℕ
+item_listing_of trees heads = codes "ok ls" ++ numbered (length heads) ++ codes "\n" ++ flat_map (item_line trees) heads
 
 -- fault, the fault's kind and its numbers
 abbrev pub fault_text : ObjFault → List ℕ

@@ -1,12 +1,16 @@
 //! Replies as they are said.
 use crate::{
-    class_reply, delete_reply, get_reply, get_reply_as, listing_reply, put_reply, refusal_reply,
+    class_reply, delete_reply, fill_reply, get_reply, get_reply_as, item_listing_reply,
+    listing_reply, put_reply, put_row_line, put_scan_start, refusal_reply, save_reply, tree_reply,
 };
 use rio_key::KeyHead;
+use rio_leaf::BranchDefs;
 use rio_machine::Refusal;
 use rio_model::MapFault;
 use rio_num::{Boxed, Bytes, Name};
+use rio_tree_table::{KeptTree, TreeTable};
 use rio_types::Classes;
+use rio_value::{Value, Values};
 use std::alloc::Global;
 use std::test::Fail;
 
@@ -99,5 +103,54 @@ fn tells_a_record_in_a_version(rt: HostRuntime) -> Result<(), Fail> {
     bytes[43] = 16;
     let text = get_reply_as(rt.alloc(), &classes, &head, 2, &bytes);
     assert!(rt; is_text(&text, FAULT));
+    Ok(())
+}
+
+#[test]
+fn says_what_was_done_with_trees(rt: HostRuntime) -> Result<(), Fail> {
+    let made = tree_reply(rt.alloc(), b"t")?;
+    assert!(rt; made.as_slice() == b"ok tree t;1\n".as_slice());
+    let added = fill_reply(rt.alloc(), b"t", 0)?;
+    assert!(rt; added.as_slice() == b"ok fill t 0\n".as_slice());
+    let saved = save_reply(rt.alloc(), b"t", 2, 8001)?;
+    assert!(rt; saved.as_slice() == b"ok save t;2 8001\n".as_slice());
+    Ok(())
+}
+
+// A table of the tree t.
+fn trees(alloc: Global) -> Result<TreeTable, Fail> {
+    let mut trees = TreeTable::new(alloc);
+    trees.reserve_one()?;
+    trees.insert(KeptTree {
+        name: Name::from_slice(alloc, b"t")?,
+        branches: BranchDefs::new(alloc),
+        saved: 12,
+        pending: 3,
+    });
+    Ok(trees)
+}
+
+#[test]
+fn lists_trees_with_their_rows(rt: HostRuntime) -> Result<(), Fail> {
+    let heads = [
+        Boxed::new(rt.alloc(), head(rt.alloc(), b"s", 1)?)?,
+        Boxed::new(rt.alloc(), head(rt.alloc(), b"t", 4)?)?,
+    ];
+    let text = item_listing_reply(rt.alloc(), &heads, &trees(rt.alloc())?)?;
+    let expected = b"ok ls 2\ns;1 TObjString\nt;4 TTree 12 3\n";
+    assert!(rt; text.as_slice() == expected.as_slice());
+    Ok(())
+}
+
+#[test]
+fn says_the_rows_of_a_scan(rt: HostRuntime) -> Result<(), Fail> {
+    let mut text = Bytes::new(rt.alloc());
+    put_scan_start(&mut text, b"t", 2)?;
+    put_row_line(&mut text, 0, &[])?;
+    let mut row = Values::new(rt.alloc());
+    row.push(Value::Int(-5))?;
+    row.push(Value::Bool(true))?;
+    put_row_line(&mut text, 1, row.as_slice())?;
+    assert!(rt; text.as_slice() == b"ok scan t 2\n0 []\n1 [-5, true]\n".as_slice());
     Ok(())
 }

@@ -21,6 +21,7 @@ mod passed;
 mod printed;
 mod refusals;
 mod registry;
+mod saved_rows;
 mod scans;
 mod tokens;
 mod tree_heads;

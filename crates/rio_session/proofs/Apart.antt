@@ -2,15 +2,11 @@
 use Rattle.std.proofs.Common.{◌≡◌, ◌==◌, ◌||◌, ℕ, ◌≤◌, Bool, true, false, cond, List, [], ◌∷◌, length, refl, sym, ap, ◌∙◌, arith}
 use Rattle.std.proofs.{lemmas.Bool.{eq-eqb, eqb-true, or_left, or_right}, lemmas.Map.Made.{length-remove_key}}
 use Rattle.std.specs.{List.{list_any}, Set.{remove_key}}
+use Rattle.rio_session.specs.Releases.{AreApart}
 
 -- the number is one of these
 abbrev pub is_among : List ℕ → ℕ → Bool
 is_among ys p = list_any (λ y. y == p) ys
-
--- none of them stands twice
-abbrev pub AreApart : List ℕ → Type 0
-AreApart [] = Unit {0}
-AreApart (x ∷ xs) = (is_among xs x ≡ false) × AreApart xs
 
 abbrev pub IsWithin : List ℕ → List ℕ → Type 0
 IsWithin xs ys = (p : ℕ) → is_among xs p ≡ true → is_among ys p ≡ true

@@ -64,17 +64,19 @@ module _ (s : SessionState) (m : State) (c : Command) (writing : is_writing c �
       subst (λ (x : ℕ × ℕ). min (x.0 + cost_of m c) (2 ^ 64 - 1) < 2 ^ 64 - 1 → held_of after ≤ 3 * x.1 + min (x.0 + cost_of m c) (2 ^ 64 - 1) + 10000) (λ i. (sym costs i, sym opened i))
       (held_more (held_of h.links) (held_of after) (3 * s.opened) s.costs (cost_of m c) h.held (takes.ends passed).held)
 
-  pub state_after : (now : List ℕ) → (kept_by s m c).classes ≡ (state_behind m c).classes
+  pub state_after : (now : List ℕ) → IsOfKeys (kept_by s m c) (state_behind m c)
       → HasChain (all_done (changes_by s m c) h.links) (kept_by s m c).segments now → KeepsFront file now → HoldsState (with_cost (cost_of m c) (kept_by s m c)) (state_behind m c) now
-  state_after now classes chain front =
+  state_after now stands chain front =
       let kept : IsKeptAfter s m c h.links after = takes.ends passed in
       record {
         links = after;
         chain = chain;
         head = subst (HasOpenHead now) (sym rest.nbytes_name) (open_image file now s.nbytes_name h.links after (state_behind m c) h.head h.chain.chain front chain.chain records_after).head;
         records = records_after;
-        classes = classes;
+        stands = record { classes = stands.classes; keys = stands.keys; trees = stands.trees };
         keys = kept.keys;
+        trees = kept.trees;
+        items = kept.items;
         info = kept.info;
         name = kept.name ∙ h.name ∙ sym rest.name;
         count = kept.count;
@@ -170,7 +172,7 @@ module _ (p : Changing) (old new : View) (before after : SessionState) (lawful :
     change_goes outcome same = record {
       outcome_is = λ told. same ∙ sym (accepted m is);
       follows = change_follows;
-      behind = subst (λ (x : SessionState × State). IsOfKeys x.0 x.1) (λ i. (sym after_is i, sym (state_is m is) i)) (record { classes = is.stands.classes; keys = is.stands.keys });
+      behind = subst (λ (x : SessionState × State). IsOfKeys x.0 x.1) (λ i. (sym after_is i, sym (state_is m is) i)) (record { classes = is.stands.classes; keys = is.stands.keys; trees = is.stands.trees });
     }
 
     change_file : ChainBecomes old new before.segments after.segments (all_done (changes_by before m c))
@@ -192,7 +194,7 @@ module _ (p : Changing) (old new : View) (before after : SessionState) (lawful :
             holds = f.1;
             said = grown.1 ∙ ap (λ (l : List ℕ). let o : Option (List ℕ) = Some l in o) (grown.2 ∙ ap (λ (l : List ℕ). said ++ l) (text_is m is));
             state = subst (λ (x : SessionState × State). HoldsState x.0 x.1 f.0) (λ i. (sym after_is i, sym (state_is m is) i))
-                (state_after before m c writing s.file s.state takes passed f.0 (sym is.stands.classes) chain f.3);
+                (state_after before m c writing s.file s.state takes passed f.0 is.stands chain f.3);
           }
 
       change_went : Went old new before after m c said Accepted

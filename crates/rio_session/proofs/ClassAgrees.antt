@@ -6,15 +6,15 @@ use Rattle.rio_chain.specs.{Changes.{with_record}, Placing.{place_of, with_segme
 use Rattle.rio_chain.proofs.{FewerRecords.{keeps_segments}, PutChain.{map_with}}
 use Rattle.rio_model.specs.Stated.{is_stated_class}
 use Rattle.rio_machine.specs.{State.{State}, declared.command.Command.TheVariants.{Class}}
-use Rattle.rio_state.specs.{Closing.{close_need, kept_in, padded_length}, KeyedRecords.{KeyedRecord, info_key, keyed_records}, Left.{info_head}}
-use Rattle.rio_step.specs.{Costs.{info_size}, ItemKeys.{AreKeysOfState}, Refusing.{refusal_of, with_class}, Step.{state_behind}}
+use Rattle.rio_state.specs.{Closing.{close_need, kept_in, padded_length}, KeyedRecords.{KeyedRecord, info_key, keyed_records}, Left.{info_head}, TreeLengths.{none_pending}}
+use Rattle.rio_step.specs.{Costs.{info_size}, Refusing.{refusal_of, with_class}, Runs.{saved_of}, Step.{state_behind}}
 use Rattle.rio_effect.specs.ClassRecord.{key_of_class, list_data, list_key_size, list_words, next_list_cycle, record_of_class}
 use Rattle.rio_effect.specs.{Classes.{list_in}, FileRuns.{added, added_length, added_place, all_changed, changed, changes_of_class, lengths_of, mark_of_changes, release_of}}
 use Rattle.rio_effect.proofs.{FileChanges.{class_bytes, class_length}, OldLists.{info_among, list_is_later, place_apart}}
-use Rattle.rio_session.specs.{Kept.{all_done, changes_by, kept_by, place_of_class, released_link, released_segment}, Marks.{command_lengths, mark_of_command, state_need}, Session.{HoldsState}, SessionState.{SessionState}, Sound.{IsSoundState}}
+use Rattle.rio_session.specs.{Kept.{all_done, changes_by, kept_by, place_of_class, released_link, released_segment}, Marks.{command_lengths, mark_of_command, state_need}, Session.{HoldsState}, SessionState.{SessionState, baskets_of, kept_trees}, Sound.{IsSoundState}}
 use Rattle.rio_session.proofs.{ClassEffects.{IsListed, class_listed, list_placed, with_list}, ListsReleased.{list_released}}
 use Rattle.rio_session.proofs.{Agreeing.{AgreesWithFile}, FileNeeds.{mark_by, mark_by_file, mark_by_kept, need_in}, Needs.{need_by_keys}}
-use Rattle.rio_session.proofs.States.{Known, known}
+use Rattle.rio_session.proofs.ClassSteps.{class_stands}
 
 -- ---- the release of the list before
 
@@ -80,9 +80,6 @@ module _ (s : SessionState) (m : State) (file : List ℕ) (h : HoldsState s m fi
       ∙ released_segments s.info more
       ∙ ap (released_segment s.info) (map_with at bytes h.links ∙ ap (with_segment at (length bytes)) (sym h.chain.same))
 
-  kn : Known h.links s.heads m
-  kn = known h.links s.heads m h.records h.keys
-
   module _ (free : refusal_of m (Class class) None ≡ None) where
     listed : IsListed s m class h.links
     listed = class_listed s m file h sound fresh soon class stated free
@@ -101,14 +98,11 @@ module _ (s : SessionState) (m : State) (file : List ℕ) (h : HoldsState s m fi
         ∙ ap kept_in (same_release found more)
         ∙ still_kept found refl
 
-    stand : AreKeysOfState s.heads (state_behind m (Class class))
-    stand = record { objects = kn.stand.objects; trees = kn.stand.trees }
-
-    class_need : close_need (kept_in (all_changed h.links (changes_of_class s.datime found (with_class m.classes class)))) ≡ state_need s.name 1 (state_behind m (Class class))
+    class_need : close_need (kept_in (all_changed h.links (changes_of_class s.datime found (with_class m.classes class)))) ≡ state_need s.name 1 (length (baskets_of s)) (state_behind m (Class class))
     class_need =
         ap close_need kept_same
-        ∙ need_in more s.heads (Some (key_of_class s.info m at s.datime class)) (state_behind m (Class class)) s.name listed.keys listed.records (listed.name ∙ h.name) listed.info
-        ∙ sym (need_by_keys s.name 1 s.heads (state_behind m (Class class)) stand (sound.kept fresh).sized)
+        ∙ need_in more s.heads s.trees (Some (key_of_class s.info m at s.datime class)) (saved_of (state_behind m (Class class))) s.name listed.keys listed.trees listed.records (listed.name ∙ h.name) listed.info
+        ∙ sym (need_by_keys s.heads (kept_trees s) (state_behind m (Class class)) (class_stands s m h.stands class) h.stands.trees (sound.kept fresh).sized s.name 1 (length (baskets_of s)))
 
     class_lengths : lengths_of (changes_of_class s.datime found (with_class m.classes class)) ≡ command_lengths m (Class class)
     unfolding command_lengths
@@ -117,7 +111,7 @@ module _ (s : SessionState) (m : State) (file : List ℕ) (h : HoldsState s m fi
         let none = no_length found in
         λ i. long i ∷ none i
 
-    class_mark : mark_of_changes h.links (changes_of_class s.datime found (with_class m.classes class)) ≡ mark_of_command s m (Class class)
+    class_mark : mark_of_changes none_pending h.links (changes_of_class s.datime found (with_class m.classes class)) ≡ mark_of_command s m (Class class)
     class_mark =
         mark_by_file h.links (changes_of_class s.datime found (with_class m.classes class))
         ∙ (λ i. mark_by (sym h.chain.same i) (class_lengths i) (class_need i))

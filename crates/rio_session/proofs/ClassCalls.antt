@@ -17,11 +17,11 @@ use Rattle.rio_step.specs.{Costs.{info_size}, Refusing.{refusal_of, with_class},
 use Rattle.rio_step.proofs.DeclaredLaws.{classes_stay_declared}
 use Rattle.rio_effect.specs.ClassRecord.{list_data, list_key_size, list_record, list_words, next_list_cycle}
 use Rattle.rio_effect.proofs.PutEffect.{padded_as}
-use Rattle.rio_judge.specs.{Judging.{CanBeDeclared, WorkCanBeDone}, declared.work.{NewClass.{NewClass}, Work.TheVariants.{Class as Declaring}}}
+use Rattle.rio_judge.specs.{Judging.{CanBeDeclared, WorkCanBeDone}, declared.work.{AnyWork.TheVariants.{Item}, NewClass.{NewClass}, Work.TheVariants.{Class as Declaring}}}
 use Rattle.rio_recover.specs.{Classes.{HasListCycle}, Closable.{kept_with}}
 use Rattle.rio_session.specs.{Behind.{IsOfKeys}, Changing.{ChangesFile}, Doable.{CanBeDone, IsToDo}, Does.{Does}, Effects.{IsChangeOf, TakesEffect}}
 use Rattle.rio_session.specs.{Lists.{CanBeListedAt, listing_at, with_new}, Says.{SaysReply}, Sound.{IsSoundState}}
-use Rattle.rio_session.specs.{Session.{HoldsState, IsReady, LacksRoomIfFull, SessionState, StandsFor, next_of, with_cost}, declared.fault.SessionFault.{SessionFault}}
+use Rattle.rio_session.specs.{Session.{HoldsState, IsReady, LacksRoomIfFull, SessionState, StandsFor, next_of, with_cost}, SessionState.{baskets_of}, declared.fault.SessionFault.{SessionFault}}
 use Rattle.rio_session.proofs.{Changed.{does_change}, ClassEffects.{class_takes_effect_on}, Refused.{step_accepted}, Replies.{does_says}, States.{of_keys}}
 use Rattle.rio_session.proofs.ClassSteps.{class_full_lacks, class_full_outcome, class_full_still, class_full_told, class_is_change}
 
@@ -48,11 +48,11 @@ classes_after classes class d can stated are =
     let after = ap (λ (t : Stepped). t.state.classes) (step_accepted m (Class class) None (can.free m refl)) in
     subst StateClasses (after ∙ ap (λ (k : ClassDef). classes ++ k ∷ []) (sym can.class)) (classes_stay_declared m (Class class) None stated are)
 
-pub can_declare : (s : SessionState) (c : Command) (d : NewClass) → IsToDo s c (Declaring d) → IsSoundState s → CanBeDone s (Declaring d)
+pub can_declare : (s : SessionState) (c : Command) (d : NewClass) → IsToDo s c (Item (Declaring d)) → IsSoundState s → CanBeDone s (Declaring d)
 can_declare s c d todo sound =
-    let p = is_class s.classes s.heads c d todo.can in
-    let to : IsToDo s (Class p.0) (Declaring d) = subst (λ (x : Command). IsToDo s x (Declaring d)) p.1 todo in
-    let can : CanBeDeclared s.classes p.0 d = to.can in
+    let p = is_class s.classes s.heads c d todo.can.0 in
+    let to : IsToDo s (Class p.0) (Item (Declaring d)) = subst (λ (x : Command). IsToDo s x (Item (Declaring d))) p.1 todo in
+    let can : CanBeDeclared s.classes p.0 d = to.can.0 in
     record {
       stays = can.stays;
       fault = can.fault;
@@ -107,7 +107,7 @@ module _ (s : SessionState) (d : NewClass) (can : CanBeDone s (Declaring d)) (li
     unfolding list_record
     list_long = new.size ∙ padded_as (key_size words) (length contents) d.length data_size
 
-  module _ (n need : ℕ) (n_is : n ≡ padded_length (list_key_size + d.length)) (need_is : need ≡ close_need (kept_with s.name s.heads (2 + length s.heads))) where
+  module _ (n need : ℕ) (n_is : n ≡ padded_length (list_key_size + d.length)) (need_is : need ≡ close_need (kept_with s.name s.heads (2 + length s.heads + length (baskets_of s)))) where
     sized : n ≡ padded_length (list_key_size + info_size (s.classes ++ d.class ∷ []))
     sized = n_is ∙ ap (λ (k : ℕ). padded_length (list_key_size + k)) (can.size_is 0)
 
@@ -134,7 +134,7 @@ module _ (s : SessionState) (d : NewClass) (can : CanBeDone s (Declaring d)) (so
     written = its.written 0 ∙ ap (λ (k : ClassDef). info_size (s.classes ++ k ∷ [])) its.class
 
     class_does : (place : ℕ) (text : List ℕ) → place < 2 ^ 32 → text ≡ text_of (class_declared d.class.name d.class.version) → place ≡ place_of s.segments (padded_length (list_key_size + d.length))
-        → is_full s.segments (padded_length (list_key_size + d.length) ∷ []) (close_need (kept_with s.name s.heads (2 + length s.heads))) ≡ false
+        → is_full s.segments (padded_length (list_key_size + d.length) ∷ []) (close_need (kept_with s.name s.heads (2 + length s.heads + length (baskets_of s)))) ≡ false
         → ChangesFile (listing_at (with_new s d) place text cost) old new s s' answer → IfOk answer (λ outcome. outcome ≡ Accepted) → Does old new s s' (Class class) answer
     class_does place text low text_is at room changes is =
         does_change (listing_at (with_new s d) place text cost) old new s s' law ready (Class class) answer fresh fresh law' changes refl is_change takes is
@@ -155,7 +155,7 @@ module _ (s : SessionState) (d : NewClass) (can : CanBeDone s (Declaring d)) (so
         takes : (m : State) (file : List ℕ) (h : HoldsState s m file) → TakesEffect s m (Class class) h.links
         takes m file h = class_takes_effect_on s m file h sound fresh soon class stated (is_change m (of_keys s m file h)).free
 
-    module _ (full : is_full s.segments (padded_length (list_key_size + d.length) ∷ []) (close_need (kept_with s.name s.heads (2 + length s.heads))) ≡ true) where
+    module _ (full : is_full s.segments (padded_length (list_key_size + d.length) ∷ []) (close_need (kept_with s.name s.heads (2 + length s.heads + length (baskets_of s)))) ≡ true) where
       outcome_is : (m : State) → IsOfKeys s m → outcome_of (next_of s m (Class class)).reply ≡ Refused (Full (file_end s.segments) (padded_length (list_key_size + d.length)))
       outcome_is m keys = class_full_outcome s m keys (sound.kept fresh).sized class (free m keys) d.length written full
 
@@ -179,29 +179,29 @@ module _ (s : SessionState) (d : NewClass) (can : CanBeDone s (Declaring d)) (so
 
   -- ---- by the work
 
-  module _ (n need : ℕ) (n_is : n ≡ padded_length (list_key_size + d.length)) (need_is : need ≡ close_need (kept_with s.name s.heads (2 + length s.heads))) (c : Command) (todo : IsToDo s c (Declaring d)) where
+  module _ (n need : ℕ) (n_is : n ≡ padded_length (list_key_size + d.length)) (need_is : need ≡ close_need (kept_with s.name s.heads (2 + length s.heads + length (baskets_of s)))) (c : Command) (todo : IsToDo s c (Item (Declaring d))) where
     abbrev asked : ClassDef
-    asked = (is_class s.classes s.heads c d todo.can).0
+    asked = (is_class s.classes s.heads c d todo.can.0).0
 
-    is : c ≡ Class (is_class s.classes s.heads c d todo.can).0
-    is = (is_class s.classes s.heads c d todo.can).1
+    is : c ≡ Class (is_class s.classes s.heads c d todo.can.0).0
+    is = (is_class s.classes s.heads c d todo.can.0).1
 
-    to : IsToDo s (Class (is_class s.classes s.heads c d todo.can).0) (Declaring d)
-    to = subst (λ (x : Command). IsToDo s x (Declaring d)) is todo
+    to : IsToDo s (Class (is_class s.classes s.heads c d todo.can.0).0) (Item (Declaring d))
+    to = subst (λ (x : Command). IsToDo s x (Item (Declaring d))) is todo
 
-    room_is : (b : Bool) → is_full s.segments (n ∷ []) need ≡ b → is_full s.segments (padded_length (list_key_size + d.length) ∷ []) (close_need (kept_with s.name s.heads (2 + length s.heads))) ≡ b
+    room_is : (b : Bool) → is_full s.segments (n ∷ []) need ≡ b → is_full s.segments (padded_length (list_key_size + d.length) ∷ []) (close_need (kept_with s.name s.heads (2 + length s.heads + length (baskets_of s)))) ≡ b
     room_is b room = subst (λ (x : ℕ × ℕ). is_full s.segments (x.0 ∷ []) x.1 ≡ b) (λ i. (n_is i, need_is i)) room
 
     pub class_is_done : (place : ℕ) (text : List ℕ) → place < 2 ^ 32 → text ≡ text_of (class_declared d.class.name d.class.version) → place ≡ place_of s.segments n → is_full s.segments (n ∷ []) need ≡ false
         → ChangesFile (listing_at (with_new s d) place text cost) old new s s' answer → IfOk answer (λ outcome. outcome ≡ Accepted) → Does old new s s' c answer
     class_is_done place text low text_is at room changes outcome =
         subst (λ (x : Command). Does old new s s' x answer) (sym is)
-        (class_does asked to.statable to.can place text low text_is (at ∙ ap (place_of s.segments) n_is) (room_is false room) changes outcome)
+        (class_does asked to.statable to.can.0 place text low text_is (at ∙ ap (place_of s.segments) n_is) (room_is false room) changes outcome)
 
     pub class_full_is_said : (end wanted : ℕ) → end ≡ file_end s.segments → wanted ≡ n → is_full s.segments (n ∷ []) need ≡ true → SaysReply (text_of (refused (Full end wanted))) cost old new s s' answer
         → IfOk answer (λ outcome. outcome ≡ Refused (Full end wanted)) → Does old new s s' c answer
     class_full_is_said end wanted end_is wanted_is room says outcome =
         subst (λ (x : Command). Does old new s s' x answer) (sym is)
-        (class_full_does asked to.statable to.can (room_is true room)
+        (class_full_does asked to.statable to.can.0 (room_is true room)
         (subst (λ (x : ℕ × ℕ). SaysReply (text_of (refused (Full x.0 x.1))) cost old new s s' answer) (λ i. (end_is i, (wanted_is ∙ n_is) i)) says)
         (subst (λ (x : ℕ × ℕ). IfOk answer (λ outcome. outcome ≡ Refused (Full x.0 x.1))) (λ i. (end_is i, (wanted_is ∙ n_is) i)) outcome))

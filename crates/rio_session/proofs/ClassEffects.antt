@@ -1,26 +1,27 @@
 -- What the changes of a class command make of the state that a session stands for.
 use Rattle.std.proofs.Common.{◌≡◌, inl, inr, ℕ, ◌+◌, ◌<◌, ◌≤◌, ◌^◌, ◌≢◌, ◌==◌, ◌&&◌, ◌||◌, List, [], ◌∷◌, length, map, take, Bool, true, false, cond, Option, Some, None, refl, sym, ap, subst, ◌∙◌, arith}
-use Rattle.std.proofs.lemmas.Bool.{cases_lt}
-use Rattle.std.specs.{Prelude.{IfSome}, List.{list_any}}
+use Rattle.std.proofs.lemmas.Bool.{cases_lt, eq-eqb, eqb-true, or_left, or_right}
+use Rattle.std.specs.{Prelude.{IfSome, if◌then◌else◌, is_some}, List.{list_any}}
 use Rattle.rio_types.specs.declared.class.ClassDef.{ClassDef}
 use Rattle.rio_key.specs.declared.head.KeyHead.{KeyHead}
 use Rattle.rio_chain.specs.{Adjoining.{AreSegments}, Changes.{with_record, without_record}, Placing.{IsPlaceFor, place_of, record_count, with_segment}, Releasing.{with_free, without_segment}, Segments.{IsChain, Link, segment_of}}
 use Rattle.rio_chain.specs.declared.segment.Segment.{Segment, TheVariants.{Record, Gap}}
-use Rattle.rio_model.specs.Stated.{is_stated_class}
+use Rattle.rio_model.specs.{Declaring.{declared}, Stated.{is_stated_class}}
 use Rattle.rio_machine.specs.{State.{State}, declared.command.Command.TheVariants.{Class}}
-use Rattle.rio_state.specs.{Closing.{KeptRecords, held_of, kept_count, kept_in, padded_length}, DirectoryKeys.{AreKeysOf}, KeyedRecords.{KeyedRecord, first_place, info_key, is_tree_record, keyed_records, top_keys}, Left.{info_head}}
-use Rattle.rio_state.specs.{OneLess.{HasRecord, IsSameWithout, NeedsNoMore}, OneMore.{HasOneMoreIn, KeyIsRead, keyed_bytes}, Reads.{AreRecordsOf}, Referred.{is_referred}}
-use Rattle.rio_state.proofs.{KeysFollow.{in_still}, LessNeeds.{need_falls}, Members.{In, contains_in}, MoreRecords.{record_more}, Unreferred.{garbage_goes}}
-use Rattle.rio_step.specs.{Costs.{cost_of, info_size}, Refusing.{refusal_of, with_class}, Runs.{saved_of}, Step.{state_behind}}
-use Rattle.rio_effect.specs.{ClassRecord.{key_of_class, list_key_size, record_of_class}, Classes.{IsClassRecord, IsDeclared, list_in, with_class_record}}
-use Rattle.rio_effect.proofs.{ClassCommand.{class_takes_effect, classes_have_records, classes_ignore_pending}, ClassEffect.{not_top}, ClassHeld.{class_held_grows}, FileChanges.{class_length}}
-use Rattle.rio_effect.proofs.{Held.{chain_segments}, OldLists.{IsListAmong, info_among, list_is_later}}
+use Rattle.rio_state.specs.{Closing.{KeptRecords, held_of, kept_in, padded_length}, DirectoryKeys.{AreKeysOf}, KeyedRecords.{KeyedRecord, begins_at as has_at, first_place, info_key, is_tree_key, is_tree_record, keyed_records, top_keys, tree_records}, Left.{info_head}}
+use Rattle.rio_state.specs.{OneLess.{HasRecord, IsSameWithout, NeedsNoMore}, OneMore.{HasOneMoreIn, KeyIsRead, keyed_bytes}, Reads.{AreRecordsOf, info_place}, Referred.{is_item_record, is_named_basket, is_referred}, TreeLengths.{none_pending}}
+use Rattle.rio_state.proofs.{KeysFollow.{in_still}, LessNeeds.{need_falls}, LessRecords.{record_less}, Members.{In, contains_in, none_from}, MoreRecords.{record_more}, Stays.{tops_same}, Unreferred.{garbage_goes}}
+use Rattle.rio_machine.specs.declared.refusal.Refusal.{Refusal}
+use Rattle.rio_step.specs.{Costs.{accepted_cost, cost_of, info_size}, Refusing.{refusal_of, with_class}, Runs.{saved_of}, Step.{state_behind}}
+use Rattle.rio_effect.specs.{AllItems.{AreAllItems}, ClassRecord.{key_of_class, list_key_size, record_of_class}, Classes.{IsClassRecord, IsDeclared, KeepsOneList, list_in, with_class_record}, Deletes.{IgnoresPending}}
+use Rattle.rio_effect.proofs.{AllItems.{items_stay_with, items_stay_without}, ClassCommand.{class_takes_effect, classes_have_records, classes_ignore_pending}, ClassEffect.{not_top}, ClassHeld.{class_held_grows}, FileChanges.{class_length}}
+use Rattle.rio_effect.proofs.{Held.{chain_segments}, OldLists.{IsListAmong, info_among, list_is_later, place_apart}}
 use Rattle.rio_close.proofs.Fitting.{count_with, place_low}
-use Rattle.rio_recover.specs.Closable.{begins_at, is_placed}
+use Rattle.rio_recover.specs.{Closable.{begins_at, is_placed, list_count}, Trees.{AreTreesOf}}
 use Rattle.rio_session.specs.{Effects.{IsKeptAfter, TakesEffect}, Kept.{LinksChange, all_done, changes_by, place_of_class, released_link, released_segment}, Marks.{mark_of_command}}
 use Rattle.rio_session.specs.{Session.{HoldsState, SessionState}, Sound.{IsSoundState}}
 use Rattle.rio_session.proofs.{Unmarked.{unmarked}}
-use Rattle.rio_session.proofs.{Keeps.{begins_still}, States.{Known, known}}
+use Rattle.rio_session.proofs.{Keeps.{begins_still}, TreesKept.{trees_with_class}, TreesOfFile.{headers_still}}
 
 -- ---- how many records there are without one
 
@@ -39,11 +40,6 @@ count_released place (Record p n ∷ segments) e = by (p == place) e (count_rele
     by false f rest = ap (λ (k : ℕ). k + 1) (rest f)
 count_released place (Gap p n ∷ segments) e = ap (λ (k : ℕ). k + 1) (count_free p n (without_segment place segments)) ∙ count_released place segments e
 
--- the records that a file keeps
-kept_counted : (links : List Link) → (kept_in links).count ≡ kept_count (info_key (keyed_records links)) (kept_in links).heads
-unfolding kept_in
-kept_counted links = refl
-
 -- ---- the new class list
 
 -- the links with its record
@@ -54,12 +50,14 @@ with_list s m class links = with_record (place_of_class s m class) (record_of_cl
 pub record IsListed (s : SessionState) (m : State) (class : ClassDef) (links : List Link) : Type 0 where
   pub read : KeyIsRead (place_of_class s m class) (record_of_class s.info m (place_of_class s m class) s.datime class) (key_of_class s.info m (place_of_class s m class) s.datime class)
   pub long : length (record_of_class s.info m (place_of_class s m class) s.datime class) ≡ padded_length (list_key_size + info_size (with_class m.classes class))
-  pub records : AreRecordsOf (keyed_records (with_list s m class links)) (state_behind m (Class class))
+  pub records : AreRecordsOf (keyed_records (with_list s m class links)) (saved_of (state_behind m (Class class)))
   pub keys : AreKeysOf (keyed_records (with_list s m class links)) s.heads
+  pub trees : AreTreesOf (keyed_records (with_list s m class links)) s.trees
+  pub items : AreAllItems (with_list s m class links)
   pub info : ◌≡◌ {A = Option KeyHead} (Some (key_of_class s.info m (place_of_class s m class) s.datime class)) (info_head (info_key (keyed_records (with_list s m class links))))
   pub old : (r : KeyedRecord) → info_key (keyed_records links) ≡ Some r → is_referred (keyed_records (with_list s m class links)) r ≡ false
   pub name : (kept_in (with_list s m class links)).name ≡ (kept_in links).name
-  pub count : (kept_in (with_list s m class links)).count ≡ 2 + length (kept_in links).heads
+  pub count : (kept_in (with_list s m class links)).count + list_count s.info ≡ (kept_in links).count + 1
   pub held : held_of (with_list s m class links) ≤ held_of links + cost_of m (Class class)
 
 module _ (s : SessionState) (m : State) (file : List ℕ) (h : HoldsState s m file) (sound : IsSoundState s) (fresh : s.failed ≡ false) (soon : s.datime < 2 ^ 32)
@@ -93,47 +91,92 @@ module _ (s : SessionState) (m : State) (file : List ℕ) (h : HoldsState s m fi
       let long = own ∙ ap (λ (o : Option KeyHead). length (record_of_class o m (place_of_class s m class) s.datime class)) h.info in
       inl (λ i. place_of (h.chain.same i) (long i))
 
-  kn : Known h.links s.heads m
-  kn = known h.links s.heads m h.records h.keys
+  -- no record begins there
+  list_free : has_at (keyed_records h.links) (place_of_class s m class) ≡ false
+  list_free =
+      none_from (λ r. r.head.seek == at) (keyed_records h.links) (λ r i same. place_apart file at (length (record_of_class (list_in h.links) m at s.datime class)) r h.links h.chain.chain list_placed i (eqb-true r.head.seek at same))
+
+  -- pending rows aren't looked at
+  ignored : IgnoresPending m (Class class)
+  ignored = classes_ignore_pending m class
+
+  abbrev saved : State
+  saved = saved_of m
+
+  saved_free : refusal_of (saved_of m) (Class class) None ≡ None
+  saved_free = ignored.refused None ∙ free
 
   its_record : IsClassRecord s.info m (place_of_class s m class) s.datime class
+  unfolding saved_of
   its_record =
+      let r = classes_have_records h.links saved at s.datime class low soon h.records stated saved_free in
       subst (λ (o : Option KeyHead). IsClassRecord o m (place_of_class s m class) s.datime class) (sym h.info)
-      (classes_have_records h.links m at s.datime class low soon kn.records stated free)
+      (record { fit = r.fit; whole = r.whole; read = r.read; key = r.key; long = r.long })
 
-  made : IsDeclared h.links m (place_of_class s m class) s.datime class
-  made = class_takes_effect file h.links m at s.datime class low soon h.chain.chain kn.records stated free
+  made : IsDeclared h.links (saved_of m) (place_of_class s m class) s.datime class
+  made = class_takes_effect file h.links saved at s.datime class low soon list_free h.chain.chain h.records stated saved_free
 
   -- the class list that is kept is the one that counts
-  more_is : with_class_record h.links m (place_of_class s m class) s.datime class ≡ more
+  more_is : with_class_record h.links (saved_of m) (place_of_class s m class) s.datime class ≡ more
+  unfolding saved_of
   more_is = ap (λ (o : Option KeyHead). with_record (place_of_class s m class) (record_of_class o m (place_of_class s m class) s.datime class) h.links) (sym h.info)
 
   info_more : ◌≡◌ {A = Option KeyHead} (Some key) (info_head (info_key (keyed_records more)))
+  unfolding saved_of
   info_more =
       sym (ap list_in (sym more_is) ∙ made.info ∙ ap (λ (o : Option KeyHead). let k : Option KeyHead = Some (key_of_class o m (place_of_class s m class) s.datime class) in k) (sym h.info))
 
+  costs_same : cost_of (saved_of m) (Class class) ≡ cost_of m (Class class)
+  unfolding cost_of saved_of
+  costs_same = ap (λ (o : Option Refusal). if is_some o then 0 else accepted_cost m (Class class)) (ignored.refused None)
+
   held_more : held_of more ≤ held_of h.links + cost_of m (Class class)
-  held_more = subst (λ (l : List Link). held_of l ≤ held_of h.links + cost_of m (Class class)) more_is (class_held_grows file h.links m at s.datime class low soon h.chain.chain kn.records stated free list_placed)
+  unfolding saved_of
+  held_more =
+      subst (λ (x : List Link × ℕ). held_of x.0 ≤ held_of h.links + x.1) (λ i. (more_is i, costs_same i))
+      (class_held_grows none_pending file h.links saved at s.datime class low soon h.chain.chain h.records stated saved_free list_placed (λ r head among there. refl))
+
+  kept_more : KeepsOneList h.links (kept_in h.links) (kept_in (with_class_record h.links (saved_of m) (place_of_class s m class) s.datime class))
+  kept_more = made.kept none_pending (λ r head among there. refl)
+
+  listed_once : list_count s.info ≡ list_count (list_in h.links)
+  listed_once = ap list_count h.info
+
+  records_more : AreRecordsOf (keyed_records more) (saved_of (state_behind m (Class class)))
+  records_more =
+      subst (λ (x : List Link × State). AreRecordsOf (keyed_records x.0) x.1) (λ i. (more_is i, ignored.behind i)) made.records
+
+  -- its trees are those of before
+  tops_more : top_keys (keyed_records more) ≡ top_keys (keyed_records h.links)
+  tops_more = tops_same (keyed_records h.links) (keyed_records more) (keyed_bytes key bytes) (record_more h.links at bytes key its_record.read) (not_top key its_record.key)
+
+  trees_more : AreTreesOf (keyed_records more) s.trees
+  unfolding saved_of
+  trees_more = by (info_key (keyed_records more)) refl
+    where
+      by : (o : Option KeyedRecord) → info_key (keyed_records more) ≡ o → AreTreesOf (keyed_records more) s.trees
+      by None none = let never = info_more ∙ ap info_head none in absurd cc
+      by (Some r) is =
+          trees_with_class (keyed_records h.links) (keyed_records more) (saved_of m) (saved_of (state_behind m (Class class))) (declared m.classes class) r h.records records_more refl is (ap tree_records tops_more) s.trees h.trees
+
+  old_goes : (r : KeyedRecord) → info_key (keyed_records h.links) ≡ Some r → is_referred (keyed_records (with_class_record h.links (saved_of m) (place_of_class s m class) s.datime class)) r ≡ false
+  unfolding saved_of
+  old_goes = made.old list_placed
 
   pub class_listed : IsListed s m class h.links
   class_listed = record {
     read = its_record.read;
     long = its_record.long;
-    records = subst (λ (l : List Link). AreRecordsOf (keyed_records l) (state_behind m (Class class))) more_is made.records;
+    records = records_more;
     keys = subst (λ (l : List Link). AreKeysOf (keyed_records l) s.heads) more_is (made.keys s.heads h.keys);
+    trees = trees_more;
+    items = items_stay_with h.links at bytes key its_record.read (inl (ap (λ (b : Bool). b && is_tree_key key) (not_top key its_record.key))) h.items;
     info = info_more;
-    old = λ r is. ap (λ (l : List Link). is_referred (keyed_records l) r) (sym more_is) ∙ made.old list_placed r is;
-    name = ap (λ (l : List Link). (kept_in l).name) (sym more_is) ∙ made.name;
-    count = ap (λ (l : List Link). (kept_in l).count) (sym more_is) ∙ made.count;
+    old = λ r is. ap (λ (l : List Link). is_referred (keyed_records l) r) (sym more_is) ∙ old_goes r is;
+    name = ap (λ (l : List Link). (kept_in l).name) (sym more_is) ∙ kept_more.name;
+    count = omega (arith, ap (λ (l : List Link). (kept_in l).count) (sym more_is), kept_more.count, listed_once);
     held = held_more;
   }
-
-  -- pending rows aren't looked at
-  saved_behind : state_behind m (Class class) ≡ saved_of (state_behind m (Class class))
-  saved_behind = ap (λ (n : State). state_behind n (Class class)) (sym kn.saved) ∙ (classes_ignore_pending m class).behind
-
-  records_more : AreRecordsOf (keyed_records more) (saved_of (state_behind m (Class class)))
-  records_more = subst (λ (n : State). AreRecordsOf (keyed_records more) n) saved_behind class_listed.records
 
   -- ---- what is to be shown of the changes
 
@@ -156,9 +199,6 @@ module _ (s : SessionState) (m : State) (file : List ℕ) (h : HoldsState s m fi
   segments_are : (o : Option KeyedRecord) → info_key (keyed_records h.links) ≡ o → record_count (released_segment s.info segments_then) ≡ record_count (released_segment (info_head o) segments_then)
   segments_are o is = ap (λ (l : Option KeyHead). record_count (released_segment l segments_then)) (h.info ∙ ap info_head is)
 
-  counted : (o : Option KeyedRecord) → info_key (keyed_records h.links) ≡ o → (kept_in h.links).count ≡ kept_count o (kept_in h.links).heads
-  counted o is = kept_counted h.links ∙ ap (λ (l : Option KeyedRecord). kept_count l (kept_in h.links).heads) is
-
   -- ---- where there was no class list
 
   takes_alone : info_key (keyed_records h.links) ≡ None → Takes (put ∷ [])
@@ -169,9 +209,11 @@ module _ (s : SessionState) (m : State) (file : List ℕ) (h : HoldsState s m fi
         subst (λ (n : ℕ). AreRecordsOf (keyed_records (all_done (take n (put ∷ [])) h.links)) (saved_of (state_behind m (Class class)))) one records_more;
     ends = λ passed. record {
       keys = class_listed.keys;
+      trees = class_listed.trees;
+      items = class_listed.items;
       info = class_listed.info;
       name = class_listed.name;
-      count = omega (arith, class_listed.count, counted None none, h.count, count_with at (length bytes) s.segments, segments_are None none);
+      count = omega (arith, class_listed.count, ap list_count (h.info ∙ ap info_head none), h.count, count_with at (length bytes) s.segments, segments_are None none);
       held = class_listed.held;
     };
   }
@@ -205,15 +247,34 @@ module _ (s : SessionState) (m : State) (file : List ℕ) (h : HoldsState s m fi
       same : IsSameWithout more r
       same = garbage_goes image more r has (class_listed.old r is)
 
-      no_more : NeedsNoMore more (without_record r.head.seek more)
-      no_more = need_falls image more r has later_list (ap (λ (b : Bool). b && is_tree_record (top_keys (keyed_records more)) r) (not_top r.head its.key))
+      -- the new one counts
+      uncounted : r.head.seek ≢ info_place (info_key (keyed_records more))
+      uncounted same_place =
+          let referred : is_referred (keyed_records more) r ≡ true = by_place same_place in
+          let never : true ≡ false = sym referred ∙ class_listed.old r is in absurd cc
+        where
+          by_place : r.head.seek ≡ info_place (info_key (keyed_records more)) → is_referred (keyed_records more) r ≡ true
+          by_place e =
+              or_left ((r.head.seek == first_place) || (r.head.seek == info_place (info_key (keyed_records more))) || is_item_record (top_keys (keyed_records more)) r) (is_named_basket (keyed_records more) r)
+              (or_left ((r.head.seek == first_place) || (r.head.seek == info_place (info_key (keyed_records more)))) (is_item_record (top_keys (keyed_records more)) r)
+              (or_right (r.head.seek == first_place) (r.head.seek == info_place (info_key (keyed_records more))) (eq-eqb r.head.seek (info_place (info_key (keyed_records more))) e)))
+
+      no_more : NeedsNoMore none_pending more (without_record r.head.seek more)
+      no_more = need_falls none_pending image more r has later_list uncounted (ap (λ (b : Bool). b && is_tree_record (top_keys (keyed_records more)) r) (not_top r.head its.key))
+
+      trees_then : AreTreesOf (keyed_records (without_record r.head.seek more)) s.trees
+      trees_then =
+          let tops = tops_same (keyed_records (without_record r.head.seek more)) (keyed_records more) r (record_less image more r has) (not_top r.head its.key) in
+          headers_still (keyed_records more) (keyed_records (without_record r.head.seek more)) s.trees same.info (ap tree_records (sym tops)) class_listed.trees
 
       kept_then : IsKeptAfter s m (Class class) h.links (without_record r.head.seek more)
       kept_then = record {
         keys = same.keys s.heads class_listed.keys;
+        trees = trees_then;
+        items = items_stay_without image more r has class_listed.items;
         info = class_listed.info ∙ ap info_head (sym same.info);
-        name = ap (λ (k : KeptRecords). k.name) same.kept ∙ class_listed.name;
-        count = omega (arith, ap (λ (k : KeptRecords). k.count) same.kept, class_listed.count, counted (Some r) is, h.count, count_with at (length bytes) s.segments, one_fewer, segments_are (Some r) is);
+        name = ap (λ (k : KeptRecords). k.name) (same.kept none_pending) ∙ class_listed.name;
+        count = omega (arith, ap (λ (k : KeptRecords). k.count) (same.kept none_pending), class_listed.count, ap list_count (h.info ∙ ap info_head is), h.count, count_with at (length bytes) s.segments, one_fewer, segments_are (Some r) is);
         held = omega (arith, no_more.held, class_listed.held);
       }
 
@@ -226,11 +287,11 @@ module _ (s : SessionState) (m : State) (file : List ℕ) (h : HoldsState s m fi
             subst (λ (n : ℕ). AreRecordsOf (keyed_records (all_done (take n (put ∷ without_record r.head.seek ∷ [])) h.links)) (saved_of (state_behind m (Class class)))) one records_more
         | inr high ↦
             let two : 2 ≡ k = omega (arith, high, few) in
-            let then = passed 1 (omega (arith, high)) in
+            let amid = passed 1 (omega (arith, high)) in
             subst (λ (n : ℕ). AreRecordsOf (keyed_records (all_done (take n (put ∷ without_record r.head.seek ∷ [])) h.links)) (saved_of (state_behind m (Class class)))) two
-            ((same then.0 then.1).records (saved_of (state_behind m (Class class))) records_more)
+            ((same amid.0 amid.1).records (saved_of (state_behind m (Class class))) records_more)
       ];
-      ends = λ passed. let then = passed 1 (omega arith) in kept_then then.0 then.1;
+      ends = λ passed. let amid = passed 1 (omega arith) in kept_then amid.0 amid.1;
     }
 
   -- ---- the command

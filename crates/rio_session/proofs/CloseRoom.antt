@@ -8,8 +8,8 @@ use Rattle.rio_dir.specs.Table.{heads_size}
 use Rattle.rio_chain.specs.{Adjoining.{AreAdjacent, AreSegments, segments_end}, Placing.{file_end, record_count, with_segment}, Releasing.{without_segment}}
 use Rattle.rio_chain.specs.declared.segment.Segment.{Segment, TheVariants.{Record, Gap}}
 use Rattle.rio_state.specs.Sizes.{close_size}
-use Rattle.rio_recover.specs.{Closable.{IsClosable, begins_at, is_fit_key, is_placed, kept_with}, Whole.{HoldsDirectory}}
-use Rattle.rio_state.proofs.CloseSizes.{close_size_is_need}
+use Rattle.rio_recover.specs.{Closable.{IsClosable, begins_at, is_fit_key, is_placed}, Whole.{HoldsDirectory}}
+use Rattle.rio_session.proofs.Needs.{need_is_size}
 
 -- ---- keys
 
@@ -38,11 +38,11 @@ fits_all heads all k d lt = by (is_fit_key (slice_index_or heads k d)) refl
 -- ---- room
 
 -- there is room for the records of a close
-pub need_low : (segments segments' : List Segment) (heads : List KeyHead) (info : Option KeyHead) (name name' : List ℕ) → IsClosable segments heads info name → segments' ≡ segments → name' ≡ name
+pub need_low : (segments segments' : List Segment) (heads : List KeyHead) (info : Option KeyHead) (baskets name name' : List ℕ) → IsClosable segments heads info baskets name → segments' ≡ segments → name' ≡ name
     → file_end segments' + close_size name' (heads_size heads) (record_count segments') ≤ 1999999996
-need_low segments segments' heads info name name' kept same own =
+need_low segments segments' heads info baskets name name' kept same own =
     subst (λ (x : List Segment × List ℕ). file_end x.0 + close_size x.1 (heads_size heads) (record_count x.0) ≤ 1999999996) (λ i. (sym same i, sym own i))
-    (omega (arith, kept.room, close_size_is_need (kept_with name heads (record_count segments))))
+    (omega (arith, kept.room, need_is_size name heads (record_count segments)))
 
 -- ---- the class list
 
@@ -63,10 +63,10 @@ begins_low from place (Record p k ∷ segments) shape e = by (p == place) refl (
     by false is later e = later e
 
 -- so the place of the class list that is kept fits its word
-pub list_low : (segments : List Segment) (heads : List KeyHead) (info : Option KeyHead) (name : List ℕ) (own : Option (Bor KeyHead)) → AreSegments segments → IsClosable segments heads info name
+pub list_low : (segments : List Segment) (heads : List KeyHead) (info : Option KeyHead) (baskets name : List ℕ) (own : Option (Bor KeyHead)) → AreSegments segments → IsClosable segments heads info baskets name
     → option_copied own ≡ info → IfSome own (λ h. h.now.seek < 2 ^ 32)
-list_low segments heads info name None shape kept is = tt
-list_low segments heads info name (Some h) shape kept is =
+list_low segments heads info baskets name None shape kept is = tt
+list_low segments heads info baskets name (Some h) shape kept is =
     let placed : is_placed segments h.now ≡ true = subst (λ (o : Option KeyHead). IfSome o (λ k. is_placed segments k ≡ true)) (sym is) kept.listed in
     omega (arith, begins_low 100 h.now.seek segments shape.adjacent placed, kept.room)
 

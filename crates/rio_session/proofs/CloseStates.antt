@@ -1,7 +1,6 @@
 -- A session's file is ready to be closed, and what a stop leaves of it.
-use Rattle.std.proofs.{Common.{◌≡◌, ℕ, List, map, Some, refl, sym, ap, subst, ◌∙◌}, lemmas.Option.{same_Some}}
-use Rattle.std.specs.{FinMap.{FinMap, entries}, List.{filter, fold}}
-use Rattle.rio_num.specs.Word.{name_order}
+use Rattle.std.proofs.{Common.{◌≡◌, ℕ, ◌==◌, List, [], ◌∷◌, map, Bool, false, cond, not, Some, refl, sym, ap, subst, ◌∙◌}, lemmas.Option.{same_Some}}
+use Rattle.std.specs.{FinMap.{entries}, List.{filter, fold}}
 use Rattle.rio_key.specs.declared.head.KeyHead.{KeyHead}
 use Rattle.rio_host.specs.Host.{Elapses, IsQuiet, Leaves, View}
 use Rattle.rio_host.proofs.Moments.{elapses_as}
@@ -12,14 +11,26 @@ use Rattle.rio_state.specs.Reads.{ReadsAsState, ReadsClosed}
 use Rattle.rio_step.specs.{Runs.{closed_of, closing_saves, has_pending, states_of_run}, Step.{state_behind}}
 use Rattle.rio_close.specs.{Leaving.{HoldsClosed, HoldsClosedWith, HoldsOpen, IsClosedWith, StaysAs}, Written.{AreCloseRecords, OpenFile}}
 use Rattle.rio_close.specs.declared.parts.CloseRecords.{CloseRecords}
-use Rattle.rio_recover.specs.Closable.{IsClosable}
-use Rattle.rio_session.specs.{Closes.{ClosesFile, IsWellClosed, open_file}, Session.{ClosesAs, SessionState, StandsFor}}
+use Rattle.rio_step.specs.KeptItems.{kept_tree}
+use Rattle.rio_recover.specs.{Closable.{IsClosable}, Trees.{AreTreesOf}, declared.trees.TreeAt.{TreeAt}}
+use Rattle.rio_tree_table.specs.declared.table.KeptTree.{KeptTree}
+use Rattle.rio_session.specs.{Closes.{ClosesFile, IsWellClosed, open_file}, Session.{ClosesAs, SessionState, StandsFor}, SessionState.{baskets_of, kept_tree_of}}
 use Rattle.rio_session.proofs.States.{Known, known}
-use Rattle.rio_reply.proofs.Listings.{entries-empty}
+
+-- no rows are pending of kept trees, so none of them is to be saved
+none_due : (trees : List TreeAt) (es : List (List ℕ × Tree)) → map kept_tree_of trees ≡ map kept_tree es → filter (λ e. has_pending e.1) es ≡ []
+none_due [] [] same = refl
+none_due [] (e ∷ es) same = absurd cc
+none_due (t ∷ trees) [] same = absurd cc
+none_due (t ∷ trees) (e ∷ es) same =
+    let first : kept_tree_of t ≡ kept_tree e = cc in
+    let others : map kept_tree_of trees ≡ map kept_tree es = cc in
+    let none : has_pending e.1 ≡ false = ap (λ (k : KeptTree). not (k.pending == 0)) (sym first) in
+    ap (λ (b : Bool). cond b (e ∷ filter (λ x. has_pending x.1) es) (filter (λ x. has_pending x.1) es)) none ∙ none_due trees es others
 
 module _ (v : View) (s : SessionState) (m : State) (text : List ℕ) (stands : StandsFor v s m text) where
-  known_here : Known stands.state.links s.heads m
-  known_here = known stands.state.links s.heads m stands.state.records stands.state.keys
+  known_here : Known stands.state.links m
+  known_here = known s m stands.file stands.state
 
   -- what a close asks of the file
   pub holds_open : (f : OpenFile) → f.segments ≡ s.segments → f.heads ≡ s.heads → f.info ≡ s.info → f.nbytes_name ≡ s.nbytes_name → HoldsOpen v f m
@@ -40,6 +51,12 @@ module _ (v : View) (s : SessionState) (m : State) (text : List ℕ) (stands : S
   unfolding holds_open
   open_named f segments heads info nbytes_name = stands.state.name
 
+  -- with the trees that are kept
+  pub open_trees : (f : OpenFile) (segments : f.segments ≡ s.segments) (heads : f.heads ≡ s.heads) (info : f.info ≡ s.info) (nbytes_name : f.nbytes_name ≡ s.nbytes_name)
+      → AreTreesOf (keyed_records (holds_open f segments heads info nbytes_name).links) s.trees
+  unfolding holds_open
+  open_trees f segments heads info nbytes_name = stands.state.trees
+
   -- no tree has pending rows, so the first state of the close is the last
   begins : (image said : List ℕ) → StaysAs v m image said → ClosesAs m text image said
   unfolding states_of_run
@@ -56,7 +73,7 @@ module _ (v : View) (s : SessionState) (m : State) (text : List ℕ) (stands : S
 
   closed_same : closed_of m ≡ m
   unfolding closed_of closing_saves
-  closed_same = ap (λ (es : List (List ℕ × Tree)). fold state_behind m (map (λ e. Save e.0) (filter (λ e. has_pending e.1) es))) (ap (λ (t : FinMap name_order Tree). entries t) known_here.stand.trees ∙ entries-empty)
+  closed_same = ap (λ (es : List (List ℕ × Tree)). fold state_behind m (map (λ e. Save e.0) es)) (none_due s.trees (entries m.trees) stands.state.stands.keys.kept)
 
   -- after the close
   pub leaves_closed : (new : View) → IsQuiet new → HoldsClosed new m → (image said : List ℕ) → Leaves new image said → ReadsAsState image (closed_of m) × ReadsClosed image (closed_of m)
@@ -65,9 +82,9 @@ module _ (v : View) (s : SessionState) (m : State) (text : List ℕ) (stands : S
       subst (λ (x : State × List ℕ). ReadsAsState x.1 x.0 × ReadsClosed x.1 x.0) (λ i. (sym closed_same i, sym file_is i)) (held.reads, held.closed)
 
 -- what is written
-pub closes_file : (old new : View) (s : SessionState) (m : State) (f : OpenFile) (r : CloseRecords) (held : HoldsOpen old f m) → f ≡ open_file s → AreCloseRecords f r → HoldsClosedWith new f held.links r held.file → IsClosable s.segments s.heads s.info s.name
-    → (kept_in held.links).name ≡ s.name → ClosesFile old new s
-closes_file old new s m f r held same made written kept named = record {
+pub closes_file : (old new : View) (s : SessionState) (m : State) (f : OpenFile) (r : CloseRecords) (held : HoldsOpen old f m) → f ≡ open_file s → AreCloseRecords f r → HoldsClosedWith new f held.links r held.file
+    → IsClosable s.segments s.heads s.info (baskets_of s) s.name → (kept_in held.links).name ≡ s.name → AreTreesOf (keyed_records held.links) s.trees → ClosesFile old new s
+closes_file old new s m f r held same made written kept named trees = record {
   records = r;
   made = subst (λ (g : OpenFile). AreCloseRecords g r) same made;
   file = held.file;
@@ -76,6 +93,7 @@ closes_file old new s m f r held same made written kept named = record {
   chain = subst (λ (g : OpenFile). HasChain held.links g.segments held.file) same held.chain;
   head = subst (λ (g : OpenFile). HasOpenHead held.file g.nbytes_name) same held.head;
   keys = subst (λ (g : OpenFile). AreKeysOf (keyed_records held.links) g.heads) same held.keys;
+  trees = trees;
   info = subst (λ (g : OpenFile). g.info ≡ info_head (info_key (keyed_records held.links))) same held.info;
   named = named;
   owned = kept.owned;
@@ -99,6 +117,8 @@ holds_closed_file old new s header file is front told = record {
   chain = is.chain;
   head = is.head;
   keys = is.keys;
+  trees = s.trees;
+  trees_are = is.trees;
   info = is.info;
   named = is.named;
   owned = is.owned;

@@ -11,11 +11,11 @@ use Rattle.rio_machine.specs.{Limits.{head_length}, State.{State}}
 use Rattle.rio_machine.specs.declared.command.Command.{Command, TheVariants.{Bad, Class, Put, Delete, Tree, Fill, Save, Get, Scan, Ls}}
 use Rattle.rio_machine.specs.{declared.command.Outcome.{Outcome, TheVariants.{Accepted, Refused}}, declared.refusal.Refusal.{Refusal, TheVariants.{Full}}}
 use Rattle.rio_chain.specs.declared.record.NewRecord.{NewRecord}
-use Rattle.rio_reply.specs.Told.{listing_of}
+use Rattle.rio_reply.specs.Told.{item_listing_of}
 use Rattle.rio_state.specs.Closing.{close_need, is_full, padded_length}
 use Rattle.rio_step.specs.{Costs.{cost_of, value_size}, Refusing.{meant_object, refusal_of}, ReplyText.{text_of}, Step.{object_put, outcome_of, refused}}
-use Rattle.rio_judge.specs.Judging.{IsJudgementOfStates, IsStep, WorkCanBeDone}
-use Rattle.rio_judge.specs.declared.work.Judged.TheVariants.{Accepted as Judgement, Refused as RefusalOf}
+use Rattle.rio_judge.specs.{Judging.{IsStep, WorkCanBeDone}, Trees.{IsJudgementOfItems}}
+use Rattle.rio_judge.specs.declared.work.{AnyWork.TheVariants.{Item}, JudgedWithTrees.TheVariants.{Accepted as Judgement, Refused as RefusalOf}}
 use Rattle.rio_judge.specs.declared.work.{StoredObject.{StoredObject}, Work.TheVariants.{Put as Storing, Get as Telling, Ls as Listing}}
 use Rattle.rio_effect.specs.ObjectRecord.{key_of_put}
 use Rattle.rio_model.specs.StateClasses.{StateClasses}
@@ -28,6 +28,7 @@ use Rattle.rio_session.proofs.OtherSteps.{ls_outcome, ls_still, ls_told, refused
 use Rattle.rio_session.proofs.{Changed.{does_change}, PutEffects.{put_takes_effect_on}}
 use Rattle.rio_session.proofs.PutSteps.{full_lacks, full_outcome, full_still, full_told, key_class, key_name, key_sized, put_is_change}
 use Rattle.rio_session.proofs.{Refused.{cost_accepted}, Replies.{IsOutcomeOf, IsStill, does_reply, does_says}, States.{of_keys}}
+use Rattle.rio_session.specs.SessionState.{baskets_of, kept_trees}
 
 -- ---- which command it is
 
@@ -70,12 +71,12 @@ is_put classes heads Ls o can = absurd can
 module _ (old new : View) (s s' : SessionState) (law : IsLawful old) (law' : IsLawful new) (ready : IsReady old s) (fresh : s.failed ≡ false) (answer : Result Outcome SessionFault) where
   -- ---- refused by the state
 
-  same_refused : (c : Command) (refusal : Refusal) (a : Result Outcome SessionFault) → IsJudgementOfStates s.classes s.heads c (RefusalOf refusal) → IfOk a (λ outcome. outcome ≡ Refused refusal)
+  same_refused : (c : Command) (refusal : Refusal) (a : Result Outcome SessionFault) → IsJudgementOfItems s.classes s.heads (kept_trees s) c (RefusalOf refusal) → IfOk a (λ outcome. outcome ≡ Refused refusal)
       → IfOk a (λ outcome. (m : State) → IsOfKeys s m → outcome ≡ outcome_of (next_of s m c).reply)
   same_refused c refusal (Ok outcome) judged is = λ m keys. is ∙ sym (refused_outcome s m c refusal (judged m keys.classes keys.keys))
   same_refused c refusal (Err e) judged is = tt
 
-  pub refused_does : (c : Command) (refusal : Refusal) → IsJudgementOfStates s.classes s.heads c (RefusalOf refusal) → SaysReply (text_of (refused refusal)) 0 old new s s' answer → IfOk answer (λ outcome. outcome ≡ Refused refusal)
+  pub refused_does : (c : Command) (refusal : Refusal) → IsJudgementOfItems s.classes s.heads (kept_trees s) c (RefusalOf refusal) → SaysReply (text_of (refused refusal)) 0 old new s s' answer → IfOk answer (λ outcome. outcome ≡ Refused refusal)
       → Does old new s s' c answer
   refused_does c refusal judged says is =
       does_says old new s s' (text_of (refused refusal)) 0 law law' ready c answer fresh says
@@ -100,9 +101,9 @@ module _ (old new : View) (s s' : SessionState) (law : IsLawful old) (law' : IsL
       → (m : State) (said : List ℕ) → StandsFor old s m said → LacksRoomIfFull (with_cost 0 s) (outcome_of (next_of s m c).reply)
   lacks_accepted c accepted m said st = subst (λ (o : Outcome). LacksRoomIfFull (with_cost 0 s) o) (sym (accepted m (of_keys s m st.file st.state))) tt
 
-  pub ls_does : IsSoundState s → IsJudgementOfStates s.classes s.heads Ls (Judgement Listing) → SaysReply (listing_of s.heads) 0 old new s s' answer → IfOk answer (λ outcome. outcome ≡ Accepted) → Does old new s s' Ls answer
+  pub ls_does : IsSoundState s → IsJudgementOfItems s.classes s.heads (kept_trees s) Ls (Judgement (Item Listing)) → SaysReply (item_listing_of (kept_trees s) s.heads) 0 old new s s' answer → IfOk answer (λ outcome. outcome ≡ Accepted) → Does old new s s' Ls answer
   ls_does sound judged says is =
-      does_says old new s s' (listing_of s.heads) 0 law law' ready Ls answer fresh says
+      does_says old new s s' (item_listing_of (kept_trees s) s.heads) 0 law law' ready Ls answer fresh says
       (λ spoken m keys. ls_still s m keys (sound.kept fresh) (judged m keys.classes keys.keys).0)
       (λ spoken m said st. let keys = of_keys s m st.file st.state in ls_told s m keys (sound.kept fresh) (judged m keys.classes keys.keys).0)
       (same_accepted Ls answer outcome is) (λ spoken. lacks_accepted Ls outcome)
@@ -117,7 +118,7 @@ module _ (old new : View) (s s' : SessionState) (law : IsLawful old) (law' : IsL
   its_outcome c became (Err e) of is = tt
 
   pub get_does : (name : List ℕ) (asked : Option ℕ) (version : Option ℤ) (h : KeyHead) → IsSoundState s → head_of name (Some h.cycle) s.heads ≡ Some h
-      → IsJudgementOfStates s.classes s.heads (Get name asked version) (Judgement (Telling h version)) → TellsObject h version old new s s' answer → Does old new s s' (Get name asked version) answer
+      → IsJudgementOfItems s.classes s.heads (kept_trees s) (Get name asked version) (Judgement (Item (Telling h version))) → TellsObject h version old new s s' answer → Does old new s s' (Get name asked version) answer
   get_does name asked version h sound found judged t =
       does_reply old new s s' t.prints.text 0 law law' ready (Get name asked version) answer fresh t.prints.says
       (λ spoken m keys. get_still s m keys (sound.kept fresh) name asked version)
@@ -140,21 +141,21 @@ module _ (old new : View) (s s' : SessionState) (law : IsLawful old) (law' : IsL
         plain = λ m keys accepted. record { changes = refl; kept = refl };
       }
 
-  pub ls_is_done : (c : Command) → IsToDo s c Listing → IsSoundState s → SaysReply (listing_of s.heads) 0 old new s s' answer → IfOk answer (λ outcome. outcome ≡ Accepted) → Does old new s s' c answer
+  pub ls_is_done : (c : Command) → IsToDo s c (Item Listing) → IsSoundState s → SaysReply (item_listing_of (kept_trees s) s.heads) 0 old new s s' answer → IfOk answer (λ outcome. outcome ≡ Accepted) → Does old new s s' c answer
   ls_is_done c todo sound says outcome =
-      let is : c ≡ Ls = is_ls s.classes s.heads c todo.can in
-      subst (λ (x : Command). Does old new s s' x answer) (sym is) (ls_does sound (subst (λ (x : Command). IsJudgementOfStates s.classes s.heads x (Judgement Listing)) is todo.judged) says outcome)
+      let is : c ≡ Ls = is_ls s.classes s.heads c todo.can.0 in
+      subst (λ (x : Command). Does old new s s' x answer) (sym is) (ls_does sound (subst (λ (x : Command). IsJudgementOfItems s.classes s.heads (kept_trees s) x (Judgement (Item Listing))) is todo.judged) says outcome)
 
-  pub get_is_done : (c : Command) (h : KeyHead) (version : Option ℤ) → IsToDo s c (Telling h version) → IsSoundState s → TellsObject h version old new s s' answer → Does old new s s' c answer
+  pub get_is_done : (c : Command) (h : KeyHead) (version : Option ℤ) → IsToDo s c (Item (Telling h version)) → IsSoundState s → TellsObject h version old new s s' answer → Does old new s s' c answer
   get_is_done c h version todo sound t =
-      let is = is_get s.classes s.heads c h version todo.can in
-      let to : IsToDo s (Get is.0 is.1 version) (Telling h version) = subst (λ (x : Command). IsToDo s x (Telling h version)) is.2 todo in
-      subst (λ (x : Command). Does old new s s' x answer) (sym is.2) (get_does is.0 is.1 version h sound to.can.1 to.judged t)
+      let is = is_get s.classes s.heads c h version todo.can.0 in
+      let to : IsToDo s (Get is.0 is.1 version) (Item (Telling h version)) = subst (λ (x : Command). IsToDo s x (Item (Telling h version))) is.2 todo in
+      subst (λ (x : Command). Does old new s s' x answer) (sym is.2) (get_does is.0 is.1 version h sound to.can.0.1 to.judged t)
 
   -- ---- put
 
-  module _ (v : Value) (o : StoredObject) (n need cost : ℕ) (classes : StateClasses s.classes) (kept : IsClosable s.segments s.heads s.info s.name)
-      (named : is_item_text o.name ≡ true) (soon : s.datime < 2 ^ 32) (judged : IsJudgementOfStates s.classes s.heads (Put o.name v) (Judgement (Storing o))) (unused : head_of o.name (Some o.cycle) s.heads ≡ None)
+  module _ (v : Value) (o : StoredObject) (n need cost : ℕ) (classes : StateClasses s.classes) (kept : IsClosable s.segments s.heads s.info (baskets_of s) s.name)
+      (named : is_item_text o.name ≡ true) (soon : s.datime < 2 ^ 32) (judged : IsJudgementOfItems s.classes s.heads (kept_trees s) (Put o.name v) (Judgement (Item (Storing o)))) (unused : head_of o.name (Some o.cycle) s.heads ≡ None)
       (n_is : n ≡ padded_length (head_length o.class o.name + o.length)) (need_is : (h : KeyHead) → is_sized h ≡ true → h.class ≡ o.class → h.name ≡ o.name → need ≡ close_need (kept_with s.name (with_head h s.heads) (record_count s.segments + 1)))
       (cost_is : cost ≡ 500 + o.length) where
     its : (m : State) → IsOfKeys s m → (refusal_of m (Put o.name v) None ≡ None) × IsStep m v o
@@ -167,9 +168,9 @@ module _ (old new : View) (s s' : SessionState) (law : IsLawful old) (law' : IsL
     room_is b place low is m keys =
         let j = its m keys in
         let k = need_is (key_of_put m place s.datime o.name v)
-        (key_sized s m keys kept.count kept.sized v o place low soon named j.0 j.1 unused)
-        (key_class s m keys kept.count kept.sized v o place low soon named j.0 j.1 unused)
-        (key_name s m keys kept.count kept.sized v o place low soon named j.0 j.1 unused) in
+        (key_sized s m keys classes kept.count kept.sized v o place low soon named j.0 j.1 unused)
+        (key_class s m keys classes kept.count kept.sized v o place low soon named j.0 j.1 unused)
+        (key_name s m keys classes kept.count kept.sized v o place low soon named j.0 j.1 unused) in
         subst (λ (x : ℕ × ℕ). is_full s.segments (x.0 ∷ []) x.1 ≡ b) (λ i. (n_is i, k i)) is
 
     pub put_does : (place : ℕ) (made : NewRecord) (text : List ℕ) → place < 2 ^ 32 → IsStoredRecord s place o made → text ≡ text_of (object_put o.name o.cycle)
@@ -180,7 +181,7 @@ module _ (old new : View) (s s' : SessionState) (law : IsLawful old) (law' : IsL
         is_change : (m : State) → IsOfKeys s m → IsChangeOf (putting s made text cost) s m (Put o.name v)
         is_change m keys =
             let j = its m keys in
-            put_is_change s m keys kept.count kept.sized v o place low soon named j.0 j.1 unused made r (room_is false place low room m keys) (at ∙ ap (place_of s.segments) n_is) text cost text_is cost_is
+            put_is_change s m keys classes kept.count kept.sized v o place low soon named j.0 j.1 unused made r (room_is false place low room m keys) (at ∙ ap (place_of s.segments) n_is) text cost text_is cost_is
 
         takes : (m : State) (file : List ℕ) (h : HoldsState s m file) → TakesEffect s m (Put o.name v) h.links
         takes m file h = put_takes_effect_on s m file h (record { classes = classes; kept = λ f. kept }) fresh soon o.name v named (its m (of_keys s m file h)).0
@@ -191,7 +192,7 @@ module _ (old new : View) (s s' : SessionState) (law : IsLawful old) (law' : IsL
     same_full (Ok outcome) room is = λ m keys.
         let j = its m keys in
         is ∙ ap (λ (k : ℕ). Refused (Full (file_end s.segments) k)) n_is
-        ∙ sym (full_outcome s m keys kept.count kept.sized v o 0 (omega arith) soon named j.0 j.1 unused (room_is true 0 (omega arith) room m keys))
+        ∙ sym (full_outcome s m keys classes kept.count kept.sized v o 0 (omega arith) soon named j.0 j.1 unused (room_is true 0 (omega arith) room m keys))
 
     lacks_full : head_length o.class o.name ≤ 229 → is_full s.segments (n ∷ []) need ≡ true
         → (m : State) (said : List ℕ) → StandsFor old s m said → LacksRoomIfFull (with_cost cost s) (outcome_of (next_of s m (Put o.name v)).reply)
@@ -200,7 +201,7 @@ module _ (old new : View) (s s' : SessionState) (law : IsLawful old) (law' : IsL
         let j = its m keys in
         let full = room_is true 0 (omega arith) room m keys in
         let lacks = full_lacks s m st.file st.state classes kept.count kept.sized v o 0 (omega arith) soon named j.0 j.1 unused full cost cost_is short in
-        subst (LacksRoomIfFull (with_cost cost s)) (sym (full_outcome s m keys kept.count kept.sized v o 0 (omega arith) soon named j.0 j.1 unused full)) lacks
+        subst (LacksRoomIfFull (with_cost cost s)) (sym (full_outcome s m keys classes kept.count kept.sized v o 0 (omega arith) soon named j.0 j.1 unused full)) lacks
 
     pub full_does : head_length o.class o.name ≤ 229 → is_full s.segments (n ∷ []) need ≡ true → SaysReply (text_of (refused (Full (file_end s.segments) n))) cost old new s s' answer
         → IfOk answer (λ outcome. outcome ≡ Refused (Full (file_end s.segments) n)) → Does old new s s' (Put o.name v) answer
@@ -212,11 +213,11 @@ module _ (old new : View) (s s' : SessionState) (law : IsLawful old) (law' : IsL
         still spoken m keys =
             let j = its m keys in
             let costs : cost ≡ cost_of m (Put o.name v) = cost_is ∙ ap (λ (k : ℕ). 500 + k) (j.1.written ∙ ap (λ (w : Value). value_size m.classes w) j.1.value) ∙ sym (cost_accepted m (Put o.name v) j.0) in
-            full_still s m keys kept.count kept.sized v o 0 (omega arith) soon named j.0 j.1 unused (room_is true 0 (omega arith) room m keys) cost costs
+            full_still s m keys classes kept.count kept.sized v o 0 (omega arith) soon named j.0 j.1 unused (room_is true 0 (omega arith) room m keys) cost costs
 
         told : IsSaid answer → (m : State) (said : List ℕ) → StandsFor old s m said → text_of (refused (Full (file_end s.segments) n)) ≡ text_of (next_of s m (Put o.name v)).reply
         told spoken m said st =
             let keys = of_keys s m st.file st.state in
             let j = its m keys in
             ap (λ (k : ℕ). text_of (refused (Full (file_end s.segments) k))) n_is
-            ∙ full_told s m keys kept.count kept.sized v o 0 (omega arith) soon named j.0 j.1 unused (room_is true 0 (omega arith) room m keys)
+            ∙ full_told s m keys classes kept.count kept.sized v o 0 (omega arith) soon named j.0 j.1 unused (room_is true 0 (omega arith) room m keys)

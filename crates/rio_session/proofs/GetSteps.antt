@@ -23,6 +23,7 @@ use Rattle.rio_recover.specs.Closable.{IsClosable}
 use Rattle.rio_session.specs.{Behind.{IsOfKeys, IsToldByKeys}, Gets.{IsReplyTo, record_told}, Marks.{command_lengths}, Session.{HoldsState, LacksRoomIfFull, SessionState, next_of}}
 use Rattle.rio_session.proofs.OtherSteps.{accepted_outcome, accepted_still, accepted_told, one_record, refused_lacks, refused_outcome, refused_still, refused_told}
 use Rattle.rio_session.proofs.{KeyClasses.{key_class}, Refused.{cost_accepted}, Replies.{IsStill}, States.{Known, known, of_keys}}
+use Rattle.rio_session.specs.SessionState.{baskets_of}
 
 -- this is said of it, and that becomes of it
 abbrev pub IsSaidOf : SessionState → State → List ℕ → Option ℕ → Option ℤ → List ℕ → Outcome → Type 0
@@ -31,14 +32,14 @@ IsSaidOf s m name asked version text outcome =
 
 -- ---- whether it is refused or not, it changes nothing and costs nothing
 
-module _ (s : SessionState) (m : State) (keys : IsOfKeys s m) (kept : IsClosable s.segments s.heads s.info s.name) (name : List ℕ) (asked : Option ℕ) (version : Option ℤ) where
+module _ (s : SessionState) (m : State) (keys : IsOfKeys s m) (kept : IsClosable s.segments s.heads s.info (baskets_of s) s.name) (name : List ℕ) (asked : Option ℕ) (version : Option ℤ) where
   pub get_still : IsStill s m (Get name asked version) 0
   unfolding command_lengths
   get_still = by (refusal_of m (Get name asked version) None) refl
     where
       by : (o : Option Refusal) → refusal_of m (Get name asked version) None ≡ o → IsStill s m (Get name asked version) 0
       by (Some refusal) is = refused_still s m (Get name asked version) refusal is
-      by None free = accepted_still s m keys kept (Get name asked version) free refl refl refl refl refl (cost_accepted m (Get name asked version) free)
+      by None free = accepted_still s m keys kept (Get name asked version) free refl refl refl refl refl refl (cost_accepted m (Get name asked version) free)
 
   -- want of room never refuses it
   pub get_lacks : (after : SessionState) → LacksRoomIfFull after (outcome_of (next_of s m (Get name asked version)).reply)
@@ -49,11 +50,11 @@ module _ (s : SessionState) (m : State) (keys : IsOfKeys s m) (kept : IsClosable
       by (Some refusal) is =
           subst (λ (o : Outcome). LacksRoomIfFull after o) (sym (refused_outcome s m (Get name asked version) refusal is)) (refused_lacks s m (Get name asked version) refusal is after)
       by None free =
-          subst (λ (o : Outcome). LacksRoomIfFull after o) (sym (accepted_outcome s m keys kept (Get name asked version) free refl refl refl refl)) tt
+          subst (λ (o : Outcome). LacksRoomIfFull after o) (sym (accepted_outcome s m keys kept (Get name asked version) free refl refl refl refl refl)) tt
 
   pub get_outcome : refusal_of m (Get name asked version) None ≡ None → outcome_of (next_of s m (Get name asked version)).reply ≡ Accepted
   unfolding command_lengths
-  get_outcome free = accepted_outcome s m keys kept (Get name asked version) free refl refl refl refl
+  get_outcome free = accepted_outcome s m keys kept (Get name asked version) free refl refl refl refl refl
 
   refused_said : (refusal : Refusal) → refusal_of m (Get name asked version) None ≡ Some refusal → (text : List ℕ) (outcome : Outcome) → text ≡ text_of (refused refusal) → outcome ≡ Refused refusal
       → IsSaidOf s m name asked version text outcome
@@ -64,7 +65,7 @@ module _ (s : SessionState) (m : State) (keys : IsOfKeys s m) (kept : IsClosable
       → IsSaidOf s m name asked version text outcome
   unfolding command_lengths
   accepted_said free text outcome text_is outcome_is =
-      (accepted_told s m keys kept (Get name asked version) free refl refl refl text text_is, outcome_is ∙ sym (get_outcome free))
+      (accepted_told s m keys kept (Get name asked version) free refl refl refl refl text text_is, outcome_is ∙ sym (get_outcome free))
 
   -- without a version the object is printed
   pub get_plain : (head : KeyHead) (bytes : List ℕ) → IsToldByKeys (Get name asked version) → (text : List ℕ) (outcome : Outcome) → IsReplyTo (record_told s.classes head version bytes) text outcome
@@ -86,7 +87,7 @@ some_of (Some x) i = (x, refl)
 abbrev refusal_by : Mapped Value → Bool → Option Refusal
 refusal_by mapped known = first_of (change_in mapped ∷ refused_if (not known) NoVersion ∷ [])
 
-module _ (s : SessionState) (m : State) (file : List ℕ) (h : HoldsState s m file) (kept : IsClosable s.segments s.heads s.info s.name) (name : List ℕ) (asked : Option ℕ) (number : ℕ) (head : KeyHead) (bytes : List ℕ)
+module _ (s : SessionState) (m : State) (file : List ℕ) (h : HoldsState s m file) (kept : IsClosable s.segments s.heads s.info (baskets_of s) s.name) (name : List ℕ) (asked : Option ℕ) (number : ℕ) (head : KeyHead) (bytes : List ℕ)
     (number_is : number ≡ meant_cycle m name asked) (key : head_of name (Some number) s.heads ≡ Some head) (among : Contains h.links (RecordAt head.seek bytes)) (v : Value) (object : meant_object m name asked ≡ Some v) where
   its : Found (is_at_cycle name number) head s.heads
   its = found (is_at_cycle name number) head s.heads key
@@ -103,14 +104,14 @@ module _ (s : SessionState) (m : State) (file : List ℕ) (h : HoldsState s m fi
   held : get m.objects (head.name, head.cycle) ≡ Some v
   held = ap (λ (x : List ℕ × ℕ). get m.objects x) (λ i. (name_is i, cycle_is i)) ∙ object
 
-  kn : Known h.links s.heads m
-  kn = known h.links s.heads m h.records h.keys
+  kn : Known h.links m
+  kn = known s m file h
 
   read : value_at s.classes head.class head.keylen (drop head.keylen bytes) ≡ Ok v
   read =
       let r = keys_have_records file h.links s.heads m head v h.chain.chain h.keys kn.records (contains_in head s.heads its.among) held in
       let same : bytes ≡ r.bytes = one_record file head.seek bytes r.bytes h.links h.chain.chain.links_are among r.there in
-      ap (λ (x : List ClassDef × List ℕ). value_at x.0 head.class head.keylen (drop head.keylen x.1)) (λ i. (h.classes i, same i)) ∙ r.read
+      ap (λ (x : List ClassDef × List ℕ). value_at x.0 head.class head.keylen (drop head.keylen x.1)) (λ i. (sym h.stands.classes i, same i)) ∙ r.read
 
   class_is : object_class v ≡ Some head.class
   class_is = key_class h.links s.heads m head v h.keys kn.records held (contains_in head s.heads its.among)
@@ -150,7 +151,7 @@ module _ (s : SessionState) (m : State) (file : List ℕ) (h : HoldsState s m fi
     told = ap (λ (o : Option Value). or_unmapped (unwrap_or o Null) (seen_in m.classes (Some version) (unwrap_or o Null))) object ∙ ap (or_unmapped v) seen
 
     record_is : record_told s.classes head (Some version) bytes ≡ told_as m.classes head version v
-    record_is = ap (record_told_as s.classes head version) read ∙ ap (λ (classes : List ClassDef). told_as classes head version v) h.classes
+    record_is = ap (record_told_as s.classes head version) read ∙ ap (λ (classes : List ClassDef). told_as classes head version v) (sym h.stands.classes)
 
     by_mapped : (r : Mapped Value) → as_version m.classes head.class version v ≡ r → IsHadByVersion (is_known_version m.classes head.class version) r
         → refusal_of m (Get name asked (Some version)) None ≡ refused_by_object m (Get name asked (Some version))

@@ -1,5 +1,5 @@
 -- What a session keeps is sound with one record more.
-use Rattle.std.proofs.Common.{◌≡◌, ◌==◌, ◌||◌, ℕ, ◌+◌, ◌-◌, ◌≤◌, Bool, true, false, List, [], ◌∷◌, length, Option, Some, None, refl, sym, subst, ◌∙◌, arith}
+use Rattle.std.proofs.Common.{◌≡◌, ◌==◌, ◌||◌, ℕ, ◌+◌, ◌-◌, ◌≤◌, Bool, true, false, List, [], ◌∷◌, length, Option, Some, None, refl, sym, ap, subst, ◌∙◌, arith}
 use Rattle.std.proofs.{lemmas.Bool.{and_from, and_parts, eq-eqb, or_left, or_right}, lemmas.List.Sums.{sum_by-cons}}
 use Rattle.std.specs.{Prelude.{IfSome, if◌then◌else◌}, List.{list_all, list_any}}
 use Rattle.rio_key.specs.{declared.head.KeyHead.{KeyHead}, Written.{written_key}}
@@ -98,35 +98,52 @@ any_still test h (k ∷ ks) e =
       | false ↦ or_right (test h) (list_any test (k ∷ ks)) e
     ]
 
--- each record is the first, that of the class list, or one of a key, with one more too
-module _ (info : Option KeyHead) (h : KeyHead) where
-  owned_still : (heads : List KeyHead) (x : Segment) → is_owned info heads x ≡ true → is_owned info (with_head h heads) x ≡ true
-  owned_still heads (Record p n) e = or_both ((p == 100) || is_list_at p info) (list_any (λ k. k.seek == p) heads) (list_any (λ k. k.seek == p) (with_head h heads)) e (λ f. any_still (λ k. k.seek == p) h heads f)
+-- each record is the first, that of the class list, one of a key, or a basket, with one more too
+module _ (info : Option KeyHead) (h : KeyHead) (baskets : List ℕ) where
+  still : (a b c d : Bool) → ((a || b) || d) ≡ true → (b ≡ true → c ≡ true) → ((a || c) || d) ≡ true
+  still true b c d e next = refl
+  still false true c d e next = ap (λ (x : Bool). x || d) (next refl)
+  still false false true d e next = refl
+  still false false false d e next = e
+
+  owned_still : (heads : List KeyHead) (x : Segment) → is_owned info heads baskets x ≡ true → is_owned info (with_head h heads) baskets x ≡ true
+  owned_still heads (Record p n) e =
+      still ((p == 100) || is_list_at p info) (list_any (λ k. k.seek == p) heads) (list_any (λ k. k.seek == p) (with_head h heads)) (list_any (λ q. q == p) baskets) e
+      (λ f. any_still (λ k. k.seek == p) h heads f)
   owned_still heads (Gap p n) e = refl
 
-  all_still : (heads : List KeyHead) (segments : List Segment) → list_all (is_owned info heads) segments ≡ true → list_all (is_owned info (with_head h heads)) segments ≡ true
+  all_still : (heads : List KeyHead) (segments : List Segment) → list_all (is_owned info heads baskets) segments ≡ true → list_all (is_owned info (with_head h heads) baskets) segments ≡ true
   all_still heads [] all = refl
   all_still heads (x ∷ xs) all =
-      let parts = and_parts (is_owned info heads x) (list_all (is_owned info heads) xs) all in
-      and_from (is_owned info (with_head h heads) x) (list_all (is_owned info (with_head h heads)) xs) (owned_still heads x parts.0) (all_still heads xs parts.1)
+      let parts = and_parts (is_owned info heads baskets x) (list_all (is_owned info heads baskets) xs) all in
+      and_from (is_owned info (with_head h heads) baskets x) (list_all (is_owned info (with_head h heads) baskets) xs) (owned_still heads x parts.0) (all_still heads xs parts.1)
 
-  rest_owned : (heads : List KeyHead) (place n : ℕ) (segments : List Segment) → list_all (is_owned info heads) segments ≡ true → list_all (is_owned info heads) (rest_of_gap place n segments) ≡ true
-  rest_owned heads place n segments all = elim (n == 0) as (λ b. list_all (is_owned info heads) (if b then segments else Gap place n ∷ segments) ≡ true) [ true ↦ all | false ↦ all ]
+  rest_owned : (heads : List KeyHead) (place n : ℕ) (segments : List Segment) → list_all (is_owned info heads baskets) segments ≡ true → list_all (is_owned info heads baskets) (rest_of_gap place n segments) ≡ true
+  rest_owned heads place n segments all = elim (n == 0) as (λ b. list_all (is_owned info heads baskets) (if b then segments else Gap place n ∷ segments) ≡ true) [ true ↦ all | false ↦ all ]
 
-  owned_new : (heads : List KeyHead) (n : ℕ) → is_owned info (with_head h heads) (Record h.seek n) ≡ true
-  owned_new heads n = or_right ((h.seek == 100) || is_list_at h.seek info) (list_any (λ k. k.seek == h.seek) (with_head h heads)) (any_new (λ k. k.seek == h.seek) h heads (same_place h.seek))
+  owned_new : (heads : List KeyHead) (n : ℕ) → is_owned info (with_head h heads) baskets (Record h.seek n) ≡ true
+  owned_new heads n =
+      or_left (((h.seek == 100) || is_list_at h.seek info) || list_any (λ k. k.seek == h.seek) (with_head h heads)) (list_any (λ q. q == h.seek) baskets)
+      (or_right ((h.seek == 100) || is_list_at h.seek info) (list_any (λ k. k.seek == h.seek) (with_head h heads)) (any_new (λ k. k.seek == h.seek) h heads (same_place h.seek)))
 
-  all_owned : (n : ℕ) (segments : List Segment) (heads : List KeyHead) → list_all (is_owned info heads) segments ≡ true → list_all (is_owned info (with_head h heads)) (with_segment h.seek n segments) ≡ true
-  all_owned n [] heads all = and_from (is_owned info (with_head h heads) (Record h.seek n)) true (owned_new heads n) refl
+  all_owned : (n : ℕ) (segments : List Segment) (heads : List KeyHead) → list_all (is_owned info heads baskets) segments ≡ true → list_all (is_owned info (with_head h heads) baskets) (with_segment h.seek n segments) ≡ true
+  all_owned n [] heads all = and_from (is_owned info (with_head h heads) baskets (Record h.seek n)) true (owned_new heads n) refl
   all_owned n (Record p m ∷ segments) heads all =
-      let parts = and_parts (is_owned info heads (Record p m)) (list_all (is_owned info heads) segments) all in
-      and_from (is_owned info (with_head h heads) (Record p m)) (list_all (is_owned info (with_head h heads)) (with_segment h.seek n segments)) (owned_still heads (Record p m) parts.0) (all_owned n segments heads parts.1)
+      let parts = and_parts (is_owned info heads baskets (Record p m)) (list_all (is_owned info heads baskets) segments) all in
+      and_from (is_owned info (with_head h heads) baskets (Record p m)) (list_all (is_owned info (with_head h heads) baskets) (with_segment h.seek n segments)) (owned_still heads (Record p m) parts.0) (all_owned n segments heads parts.1)
   all_owned n (Gap p m ∷ segments) heads all =
-      elim (p == h.seek) as (λ b. list_all (is_owned info (with_head h heads)) (if b then Record h.seek n ∷ rest_of_gap (h.seek + n) (m - n) segments else Gap p m ∷ with_segment h.seek n segments) ≡ true) [
-        | true ↦ and_from (is_owned info (with_head h heads) (Record h.seek n)) (list_all (is_owned info (with_head h heads)) (rest_of_gap (h.seek + n) (m - n) segments)) (owned_new heads n)
+      elim (p == h.seek) as (λ b. list_all (is_owned info (with_head h heads) baskets) (if b then Record h.seek n ∷ rest_of_gap (h.seek + n) (m - n) segments else Gap p m ∷ with_segment h.seek n segments) ≡ true) [
+        | true ↦ and_from (is_owned info (with_head h heads) baskets (Record h.seek n)) (list_all (is_owned info (with_head h heads) baskets) (rest_of_gap (h.seek + n) (m - n) segments)) (owned_new heads n)
             (rest_owned (with_head h heads) (h.seek + n) (m - n) segments (all_still heads segments all))
         | false ↦ all_owned n segments heads all
       ]
+
+-- and so do the records of baskets
+pub stored_still : (place n : ℕ) (segments : List Segment) (baskets : List ℕ) → list_all (λ p. list_any (begins_at p) segments) baskets ≡ true → list_all (λ p. list_any (begins_at p) (with_segment place n segments)) baskets ≡ true
+stored_still place n segments [] all = refl
+stored_still place n segments (q ∷ baskets) all =
+    let parts = and_parts (list_any (begins_at q) segments) (list_all (λ p. list_any (begins_at p) segments) baskets) all in
+    and_from (list_any (begins_at q) (with_segment place n segments)) (list_all (λ p. list_any (begins_at p) (with_segment place n segments)) baskets) (begins_still q place n segments parts.0) (stored_still place n segments baskets parts.1)
 
 -- the class list stays where it is
 listed_still : (info : Option KeyHead) (place n : ℕ) (segments : List Segment) → IfSome info (λ h. is_placed segments h ≡ true) → IfSome info (λ h. is_placed (with_segment place n segments) h ≡ true)
@@ -135,24 +152,25 @@ listed_still (Some h) place n segments there = begins_still h.seek place n segme
 
 -- ---- all of it
 
-pub kept_more : (segments : List Segment) (heads : List KeyHead) (info : Option KeyHead) (name : List ℕ) (n : ℕ) (h : KeyHead) → IsClosable segments heads info name → is_sized h ≡ true → is_fit_key h ≡ true
+pub kept_more : (segments : List Segment) (heads : List KeyHead) (info : Option KeyHead) (baskets name : List ℕ) (n : ℕ) (h : KeyHead) → IsClosable segments heads info baskets name → is_sized h ≡ true → is_fit_key h ≡ true
     → file_end (with_segment h.seek n segments) + close_need (kept_with name (with_head h heads) (record_count segments + 1)) ≤ end_limit
-    → IsClosable (with_segment h.seek n segments) (with_head h heads) info name
-kept_more segments heads info name n h kept sized fit room = record {
+    → IsClosable (with_segment h.seek n segments) (with_head h heads) info baskets name
+kept_more segments heads info baskets name n h kept sized fit room = record {
   sized = all_with is_sized h heads sized kept.sized;
   fit = all_with is_fit_key h heads fit kept.fit;
   placed = all_with (is_placed (with_segment h.seek n segments)) h heads (new_begins h.seek n segments) (all_placed h.seek n segments heads kept.placed);
   listed = listed_still info h.seek n segments kept.listed;
-  owned = all_owned info h n segments heads kept.owned;
+  stored = stored_still h.seek n segments baskets kept.stored;
+  owned = all_owned info h baskets n segments heads kept.owned;
   short = kept.short;
   count = omega (arith, count_with h.seek n segments, length_with h heads, kept.count);
   room = subst (λ (k : ℕ). file_end (with_segment h.seek n segments) + close_need (kept_with name (with_head h heads) k) ≤ end_limit) (sym (count_with h.seek n segments)) room;
 }
 
 -- the same with the record that was made
-pub kept_put : (s : SessionState) (made : NewRecord) (segments segments' : List Segment) (heads heads' : List KeyHead) (info : Option KeyHead) (name : List ℕ) → CanBePut s made → IsClosable segments heads info name
-    → s.segments ≡ segments → s.heads ≡ heads → s.name ≡ name → segments' ≡ with_segment made.head.seek (length made.bytes.bytes) segments → heads' ≡ with_head made.head heads → IsClosable segments' heads' info name
-kept_put s made segments segments' heads heads' info name can kept a b c put more =
+pub kept_put : (s : SessionState) (made : NewRecord) (segments segments' : List Segment) (heads heads' : List KeyHead) (info : Option KeyHead) (baskets name : List ℕ) → CanBePut s made → IsClosable segments heads info baskets name
+    → s.segments ≡ segments → s.heads ≡ heads → s.name ≡ name → segments' ≡ with_segment made.head.seek (length made.bytes.bytes) segments → heads' ≡ with_head made.head heads → IsClosable segments' heads' info baskets name
+kept_put s made segments segments' heads heads' info baskets name can kept a b c put more =
     let room = subst (λ (x : List Segment × (List KeyHead × List ℕ)). file_end (with_segment made.head.seek (length made.bytes.bytes) x.0) + close_need (kept_with x.1.1 (with_head made.head x.1.0) (record_count x.0 + 1)) ≤ end_limit) (λ i. (a i, (b i, c i))) can.room in
-    let all = kept_more segments heads info name (length made.bytes.bytes) made.head kept can.sized can.fit room in
-    subst (λ (x : List Segment × List KeyHead). IsClosable x.0 x.1 info name) (λ i. (sym put i, sym more i)) all
+    let all = kept_more segments heads info baskets name (length made.bytes.bytes) made.head kept can.sized can.fit room in
+    subst (λ (x : List Segment × List KeyHead). IsClosable x.0 x.1 info baskets name) (λ i. (sym put i, sym more i)) all

@@ -1,16 +1,20 @@
 -- The keys stand for the state behind a put.
-use Rattle.std.proofs.Common.{◌≡◌, ℕ, List, [], ◌∷◌, map, Bool, true, false, cond, ◌==◌, Option, Some, None, refl, sym, ap, ◌∙◌}
+use Rattle.std.proofs.Common.{◌≡◌, ℕ, List, [], ◌∷◌, map, Bool, true, false, cond, not, ◌==◌, Option, Some, None, refl, sym, subst, ap, ◌∙◌}
 use Rattle.std.proofs.{lemmas.Bool.{and_from, eq-eqb}, lemmas.Cmp.{nat_list_eq_equiv}}
-use Rattle.std.specs.{Prelude.{if◌then◌else◌}, FinMap.{entries, entries-insert, Entries.{by_order, put}}, List.{find}, Ordering.{is_lt, ordering_reverse}}
+use Rattle.std.specs.{Prelude.{if◌then◌else◌, is_some}, FinMap.{entries, entries-insert, Entries.{by_order, put}}, List.{filter, find}, Ordering.{is_lt, ordering_reverse}}
 use Rattle.std.specs.{Str.{bytes_eq}, declared.cmp.Ordering.{Ordering, TheVariants.{Less, Equal, Greater}}}
 use Rattle.rio_num.specs.Word.{name_order}
 use Rattle.rio_key.specs.declared.head.KeyHead.{KeyHead}
 use Rattle.rio_value.specs.declared.value.Value.{Value}
-use Rattle.rio_dir.specs.Table.{is_at_cycle, is_before, with_head}
+use Rattle.rio_dir.specs.Table.{AreBehind, AreOrdered, is_at_cycle, is_before, with_head}
+use Rattle.rio_dir.proofs.{TableLists.{behind_too, ordered_with}, TableOrder.{at_is, before_itself, before_trans, else_behind}}
+use Rattle.rio_tree_table.specs.{Table.{tree_of}, declared.table.KeptTree.{KeptTree}}
 use Rattle.rio_machine.proofs.OrderLaws.{items_tie, items_total}
 use Rattle.rio_machine.specs.{State.{NameAndCycle, State, item_order, next_cycle}, declared.command.Command.TheVariants.{Put}}
-use Rattle.rio_judge.proofs.KeysOfState.{first_is, item_of}
-use Rattle.rio_step.specs.{ItemKeys.{AreKeysOfState, told_by_key}, Refusing.{put_value}, Step.{listed_object, state_behind}}
+use Rattle.rio_state.proofs.{Insertion.{filter_same}, KeysFollow.{head_more}}
+use Rattle.rio_judge.proofs.{Divided.{find_kept, ordered_kept}, KeysOfState.{first_is, item_of}}
+use Rattle.rio_step.specs.KeptItems as items
+use Rattle.rio_step.specs.{ItemKeys.{told_by_key}, KeptItems.{AreItemsOfState, is_object_key, is_tree_key}, Refusing.{put_value}, Step.{listed_object, state_behind}}
 use Rattle.rio_effect.proofs.KeysOfState.{Told}
 
 none_parts : (b : Bool) (x : KeyHead) (o : Option KeyHead) → cond b (Some x) o ≡ None → (b ≡ false) × (o ≡ None)
@@ -77,11 +81,61 @@ lists_with h item v (k ∷ ks) (e ∷ es) told same none =
     let parts = none_parts (is_at_cycle h.name h.cycle k) k (find (is_at_cycle h.name h.cycle) ks) none in
     with_one h item v told k ks e es first rest parts.0 (lists_with h item v ks es told rest parts.1)
 
-pub keys_behind : (heads : List KeyHead) (m : State) (name : List ℕ) (v : Value) (h : KeyHead) → AreKeysOfState heads m → told_by_key h ≡ listed_object ((name, next_cycle m name), put_value m v)
-    → find (is_at_cycle h.name h.cycle) heads ≡ None → AreKeysOfState (with_head h heads) (state_behind m (Put name v))
-keys_behind heads m name v h keys told none = record {
-  objects =
-      lists_with h (name, next_cycle m name) (put_value m v) heads (entries m.objects) told keys.objects none
-      ∙ ap (map listed_object) (sym (entries-insert items_total m.objects (name, next_cycle m name) (put_value m v)));
-  trees = keys.trees;
-}
+-- ---- keys that a test keeps
+
+-- a key that comes before all of some others is the first with them
+first_with : (h : KeyHead) (ks : List KeyHead) → AreBehind h.name h.cycle ks → with_head h ks ≡ h ∷ ks
+first_with h [] are = refl
+first_with h (k ∷ ks) are = by (is_before h.name h.cycle k) refl
+  where
+    by : (b : Bool) → is_before h.name h.cycle k ≡ b → (if b then k ∷ with_head h ks else h ∷ k ∷ ks) ≡ h ∷ k ∷ ks
+    by true is =
+        let again = before_trans h.name h.cycle k.name k.cycle h.name h.cycle are.0 is in
+        let never : true ≡ false = sym again ∙ before_itself h.name h.cycle in
+        absurd cc
+    by false is = refl
+
+module _ (keep : KeyHead → Bool) (h : KeyHead) (kept : keep h ≡ true) where
+  -- among the keys that are kept it stands where it stands among all
+  filter_with : (heads : List KeyHead) → AreOrdered heads → find (is_at_cycle h.name h.cycle) heads ≡ None → filter keep (with_head h heads) ≡ with_head h (filter keep heads)
+  filter_with [] are none = ap (λ (b : Bool). cond b (h ∷ []) []) kept
+  filter_with (k ∷ ks) are none = by (is_before h.name h.cycle k) refl (filter_with ks are.1 parts.1)
+    where
+      parts : (is_at_cycle h.name h.cycle k ≡ false) × (find (is_at_cycle h.name h.cycle) ks ≡ None)
+      parts = none_parts (is_at_cycle h.name h.cycle k) k (find (is_at_cycle h.name h.cycle) ks) none
+
+      by : (b : Bool) → is_before h.name h.cycle k ≡ b → filter keep (with_head h ks) ≡ with_head h (filter keep ks)
+          → filter keep (if b then k ∷ with_head h ks else h ∷ k ∷ ks) ≡ with_head h (filter keep (k ∷ ks))
+      by true is later = at (keep k)
+        where
+          at : (c : Bool) → cond c (k ∷ filter keep (with_head h ks)) (filter keep (with_head h ks)) ≡ with_head h (cond c (k ∷ filter keep ks) (filter keep ks))
+          at true = ap (λ (l : List KeyHead). k ∷ l) later ∙ sym (ap (λ (b : Bool). if b then k ∷ with_head h (filter keep ks) else h ∷ k ∷ filter keep ks) is)
+          at false = later
+      by false is later =
+          let first = else_behind h.name h.cycle k is parts.0 in
+          let all : AreOrdered (h ∷ k ∷ ks) = ((first, behind_too h.name h.cycle k ks first are.0), are) in
+          let some = subst (λ (b : Bool). AreOrdered (cond b (h ∷ filter keep (k ∷ ks)) (filter keep (k ∷ ks)))) kept (ordered_kept keep (h ∷ k ∷ ks) all) in
+          ap (λ (b : Bool). cond b (h ∷ filter keep (k ∷ ks)) (filter keep (k ∷ ks))) kept ∙ sym (first_with h (filter keep (k ∷ ks)) some.0)
+
+-- ---- behind a put
+
+-- a key of a name is one of an object or of a tree as the name is
+pub same_kind : (trees : List KeptTree) (name : List ℕ) (cycle : ℕ) (k : KeyHead) → is_at_cycle name cycle k ≡ true → is_tree_key trees k ≡ is_some (tree_of name trees)
+same_kind trees name cycle k at = ap (λ (n : List ℕ). is_some (tree_of n trees)) (at_is name cycle k at).0
+
+pub keys_behind : (heads : List KeyHead) (trees : List KeptTree) (m : State) (name : List ℕ) (v : Value) (h : KeyHead) → AreItemsOfState heads trees m → tree_of h.name trees ≡ None
+    → told_by_key h ≡ listed_object ((name, next_cycle m name), put_value m v) → find (is_at_cycle h.name h.cycle) heads ≡ None → AreItemsOfState (with_head h heads) trees (state_behind m (Put name v))
+keys_behind heads trees m name v h are free told none =
+    let other : is_tree_key trees h ≡ false = ap is_some free in
+    let kept = λ (k : KeyHead) (at : is_at_cycle h.name h.cycle k ≡ true). ap not (same_kind trees h.name h.cycle k at ∙ other) in
+    let objects = filter (is_object_key trees) heads in
+    let new : find (is_at_cycle h.name h.cycle) objects ≡ None = find_kept (is_object_key trees) (is_at_cycle h.name h.cycle) kept heads ∙ none in
+    record {
+      ordered = ordered_with h heads are.ordered none;
+      objects =
+          ap (map told_by_key) (filter_with (is_object_key trees) h (ap not other) heads are.ordered none)
+          ∙ lists_with h (name, next_cycle m name) (put_value m v) objects (entries m.objects) told are.objects new
+          ∙ ap (map listed_object) (sym (entries-insert items_total m.objects (name, next_cycle m name) (put_value m v)));
+      cycles = ap (map items.item_of_key) (filter_same (is_tree_key trees) h heads (with_head h heads) (head_more h heads) other) ∙ are.cycles;
+      kept = are.kept;
+    }

@@ -8,15 +8,14 @@ use Rattle.rio_key.specs.declared.head.KeyHead.{KeyHead}
 use Rattle.rio_model.specs.{Declaring.{class_limit, declared, rule_fault}, StateClasses.{AreAccepted, StateClasses}}
 use Rattle.rio_model.specs.declared.declare.DeclareFault.{DeclareFault, TheVariants.{TooMany}}
 use Rattle.rio_chain.specs.{Changes.{with_record}, Placing.{file_end, place_of, with_segment}, Segments.{IsRecord}, declared.record.NewRecord.{NewRecord}}
-use Rattle.rio_chain.specs.declared.segment.Segment.{Segment}
 use Rattle.rio_judge.specs.declared.work.NewClass.{NewClass}
 use Rattle.rio_state.specs.Closing.{close_need, end_limit}
 use Rattle.rio_effect.specs.ClassRecord.{list_key, next_list_cycle}
-use Rattle.rio_recover.specs.{Classes.{HasListCycle}, Closable.{IsClosable, kept_with}}
+use Rattle.rio_recover.specs.{Classes.{HasListCycle}, Closable.{kept_with}}
 use Rattle.rio_session.specs.{Changing.{Changing, ChangesFile}, Kept.{released_link, released_segment}, Lists.{CanBeListedAt, CanReplace, IsDeclarable, IsListRecord, listing, listing_at, with_new}}
 use Rattle.rio_session.specs.{Says.{NotDone}, SessionState.{SessionState}}
 use Rattle.rio_session.specs.declared.fault.SessionFault.{SessionFault, TheVariants.{HostFault, SayFault, NoMemory}}
-use Rattle.rio_session.proofs.Needs.{kept_bounds}
+use Rattle.rio_session.specs.SessionState.{baskets_of}
 
 -- ---- how many classes there are
 
@@ -58,14 +57,6 @@ pub still_listed : (info : Option KeyHead) (classes classes' : List ClassDef) (c
 still_listed None classes classes' class is listed = tt
 still_listed (Some h) classes classes' class is listed = omega (arith, listed, ap length is, length-append classes (class ∷ []))
 
--- ---- what a close needs
-
--- there are few keys
-pub few_heads : (segments : List Segment) (heads : List KeyHead) (info : Option KeyHead) (name : List ℕ) → IsClosable segments heads info name → length heads ≤ end_limit
-few_heads segments heads info name kept =
-    let b = kept_bounds segments heads info name kept in
-    omega (arith, b.1, kept.count)
-
 -- ---- the record that is made for a place
 
 key_seek : (place datime cycle : ℕ) (classes : List ClassDef) → (list_key place datime cycle classes).seek ≡ place
@@ -90,7 +81,7 @@ module _ (s : SessionState) (place : ℕ) (made : NewRecord) (r : IsListRecord s
     place = seek_is ∙ at.place_is ∙ ap (place_of s.segments) (sym r.long);
     spare = r.spare;
     cycle = omega (arith, cycle_is, at.cycle);
-    room = subst (λ (x : ℕ × ℕ). file_end (with_segment x.0 x.1 s.segments) + close_need (kept_with s.name s.heads (2 + length s.heads)) ≤ end_limit) (λ i. (sym seek_is i, sym r.long i)) at.room;
+    room = subst (λ (x : ℕ × ℕ). file_end (with_segment x.0 x.1 s.segments) + close_need (kept_with s.name s.heads (2 + length s.heads + length (baskets_of s))) ≤ end_limit) (λ i. (sym seek_is i, sym r.long i)) at.room;
   }
 
   -- and with it the same is changed

@@ -7,7 +7,8 @@ use Rattle.rio_chain.proofs.Records.{are_new_records}
 use Rattle.rio_state.specs.Closing.{padded_length}
 use Rattle.rio_step.specs.Costs.{info_size}
 use Rattle.rio_effect.specs.ClassRecord.{list_data, list_key, list_key_size, list_record, list_words, next_list_cycle}
-use Rattle.rio_effect.proofs.{PutEffect.{padded_as}, WrittenLengths.{written_length}}
+use Rattle.rio_effect.proofs.{PutEffect.{padded_as}}
+use Rattle.rio_tree.proofs.WrittenLengths.{written_length}
 use Rattle.rio_session.specs.{Lists.{CanBeListedAt, IsListRecord}, SessionState.{SessionState}}
 
 -- what its key says, and its data

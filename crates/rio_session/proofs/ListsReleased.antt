@@ -5,8 +5,8 @@ use Rattle.std.specs.List.{cons_option}
 use Rattle.rio_key.specs.declared.head.KeyHead.{KeyHead}
 use Rattle.rio_chain.specs.{Changes.{with_gap, with_record, with_rest, without_record}, Segments.{GapAt, HoldsLinks, IsChain, Link, RecordAt}}
 use Rattle.rio_chain.proofs.Words.{held_long}
-use Rattle.rio_state.specs.{Closing.{KeptRecords, item_heads, kept_count, kept_in, name_in}, KeyedRecords.{KeyedRecord, first_place, info_key, is_info_key, keyed_records, top_keys}}
-use Rattle.rio_state.specs.{OneMore.{HasOneMoreIn, KeyIsRead, keyed_bytes}, Reads.{info_place}, Referred.{is_item_record, is_referred}}
+use Rattle.rio_state.specs.{Closing.{item_heads, kept_in, kept_of, kept_with, name_in}, KeyedRecords.{KeyedRecord, first_place, info_key, is_info_key, keyed_records, top_keys, tree_records}}
+use Rattle.rio_state.specs.{OneMore.{HasOneMoreIn, KeyIsRead, keyed_bytes}, Reads.{info_place}, Referred.{is_item_record, is_named_basket, is_referred}, TreeLengths.{none_pending}}
 use Rattle.rio_state.proofs.{Insertion.{behind}, LessRecords.{OwnRecord, gap_records, own_record, record_late, records_less, with_own}, Members.{In}, MoreRecords.{keyed_link}}
 use Rattle.rio_state.proofs.{Stays.{tops_same}, Unreferred.{info_kept}}
 use Rattle.rio_effect.proofs.ClassEffect.{not_top}
@@ -81,20 +81,18 @@ module _ (file : List ℕ) (place : ℕ) (bytes : List ℕ) (head : KeyHead) (re
       ap (λ (ls : List Link). name_in (keyed_records ls)) stays
       ∙ ap name_in (with_own p others o (left rest)) ∙ ap name_in (sym (with_own p others o rest))
 
-  abbrev kept_from : List ℕ → Option KeyedRecord → List KeyHead → KeptRecords
-  kept_from name info heads = record { name = name; heads = heads; count = kept_count info heads }
-
   -- where the list isn't referred to any more, the file keeps what it kept
   pub list_released : (links : List Link) → IsChain links file → In r (keyed_records links) → is_info_key r.head ≡ true → r.head.seek ≢ first_place
       → is_referred (keyed_records (with_record place bytes links)) r ≡ false → kept_in (without_record r.head.seek (with_record place bytes links)) ≡ kept_in (with_record place bytes links)
-  unfolding kept_in
+  unfolding kept_with
   list_released links chain i list later none =
       let old = keyed_records (with_record place bytes links) in
       let new = keyed_records (left (with_record place bytes links)) in
       let less : HasOneMoreIn new old r = less_with 100 links chain.links_are i in
-      let parts = or_parts ((r.head.seek == first_place) || (r.head.seek == info_place (info_key old))) (is_item_record (top_keys old) r) none in
+      let unnamed = or_parts ((r.head.seek == first_place) || (r.head.seek == info_place (info_key old)) || is_item_record (top_keys old) r) (is_named_basket old r) none in
+      let parts = or_parts ((r.head.seek == first_place) || (r.head.seek == info_place (info_key old))) (is_item_record (top_keys old) r) unnamed.0 in
       let front = or_parts (r.head.seek == first_place) (r.head.seek == info_place (info_key old)) parts.0 in
       let info = info_kept old new r less front.1 in
       let tops : top_keys new ≡ top_keys old = sym (tops_same new old r less (not_top r.head list)) in
       let name = first_with links chain later in
-      λ i. kept_from (name i) (info i) (item_heads (tops i))
+      λ i. kept_of none_pending (name i) (info i) (item_heads (tops i)) (tree_records (tops i))

@@ -1,8 +1,6 @@
 -- A made file that is opened: marked as open, and without its garbage.
-use Rattle.std.proofs.{Common.{◌≡◌, ℕ, ◌≤◌, ◌<◌, ◌^◌, List, [], ◌∷◌, length, Option, Some, None, Bool, false, if◌then◌else◌, refl, sym, ap, subst, ◌∙◌, arith}, lemmas.{List.Sums.{sum_by-cons}, Option.{same_Some}}}
-use Rattle.std.specs.{Prelude.{MatchBool}, List.{find}, Option.{option_and_then, option_map_or}}
-use Rattle.std.specs.Str.{bytes_eq}
-use Rattle.rio_types.specs.declared.class.ClassDef.{ClassDef}
+use Rattle.std.proofs.{Common.{◌≡◌, ℕ, ◌+◌, ◌<◌, ◌^◌, List, length, Option, Some, None, Bool, false, if◌then◌else◌, refl, sym, ap, subst, ◌∙◌, arith}, lemmas.{Option.{same_Some}}}
+use Rattle.std.specs.{Prelude.{MatchBool}, Option.{option_map_or}}
 use Rattle.rio_key.specs.declared.head.KeyHead.{KeyHead}
 use Rattle.rio_num.proofs.ReadLaws.{ok_is}
 use Rattle.rio_head.specs.{Form.{is_large_head}, declared.fault.HeadFault.{HeadFault}, declared.head.FileHead.{FileHead}}
@@ -16,13 +14,14 @@ use Rattle.rio_close.proofs.EndWord.{chain_ignores_end, mark_opens_file, state_i
 use Rattle.rio_create.specs.NewFile.{first_links, new_file}
 use Rattle.rio_effect.proofs.NeedsByKeys.{items_same}
 use Rattle.rio_machine.specs.State.{State, empty_state}
-use Rattle.rio_recover.specs.{Cleaning.{HoldsCleaned, cleaned}, Closable.{IsClosable, kept_with, list_count}, Recovered.{IsRecovered}, declared.recovery.Recovered.{Recovered}}
-use Rattle.rio_state.specs.{DirectoryKeys.{AreKeysOf}, Closing.{KeptRecords, close_need, free_length, item_heads, kept_count, kept_in, list_length, name_in, padded_length}, Contents.{no_tree_is_read, tree_of}, KeyedRecords.{KeyedRecord, info_key, keyed_records, top_keys, tree_records}}
+use Rattle.rio_recover.specs.{Cleaning.{HoldsCleaned, cleaned}, Closable.{IsClosable, list_count}, Recovered.{IsRecovered}, Trees.{AreTreesOf, trees_at}, declared.recovery.Recovered.{Recovered}}
+use Rattle.rio_state.specs.{DirectoryKeys.{AreKeysOf}, Closing.{item_heads, kept_count, kept_in, kept_with, name_in}, Contents.{file_classes}, KeyedRecords.{KeyedRecord, info_key, keyed_records, top_keys, tree_records}}
+use Rattle.rio_state.specs.{TreeLengths.{none_pending}, Trees.{all_places_named}}
 use Rattle.rio_state.specs.{Left.{HasOpenHead, IsMarkedOpen, ReadsClosedUnlessOpen, info_head, open_end}, Reads.{AreRecordsOf, ReadsAsMade, ReadsAsState}}
-use Rattle.rio_state.proofs.{HeldLimits.{held_is_limited}, OneState.{reads_one}}
+use Rattle.rio_state.proofs.{HeldLimits.{held_is_limited}, NonePending.{all_idle}, OneState.{reads_one}}
 use Rattle.rio_step.specs.Runs.{saved_of}
-use Rattle.rio_session.specs.{Opening.{BeginsOn, OpensMade}, Session.{HoldsState, SessionState, StandsFor}}
-use Rattle.rio_session.proofs.{OpenNew.{kept_name, saved_without}, Opened.{IsOpenImage, chain_long, open_image}}
+use Rattle.rio_session.specs.{Opening.{BeginsOn, OpensMade}, Session.{HoldsState, SessionState, StandsFor}, SessionState.{baskets_of}}
+use Rattle.rio_session.proofs.{CleanItems.{items_of_clean}, Needs.{kept_bounds}, OpenNew.{kept_name, stand_for}, Opened.{IsOpenImage, chain_long, open_image}, TreesOfFile.{places_count, trees_still}, TreesRead.{records_saved}}
 
 -- ---- marks
 
@@ -41,20 +40,15 @@ marked_closed image m marked word root has other = absurd (other (word_one image
 pub made_state : (file : List ℕ) (m : State) → is_unborn file ≡ false → ReadsAsState file m → ReadsAsMade file m
 made_state file m made reads = subst (λ (b : Bool). MatchBool b (m ≡ empty_state) (ReadsAsMade file m)) made reads
 
--- no record stands for a tree
-no_tree : (classes : List ClassDef) (records trees : List KeyedRecord) (found : Option KeyedRecord) → option_and_then (tree_of classes records trees) found ≡ None
-no_tree classes records trees None = refl
-no_tree classes records trees (Some r) = no_tree_is_read classes records trees r
-
-pub records_saved : (records : List KeyedRecord) (m : State) → AreRecordsOf records m → saved_of m ≡ m
-records_saved records m are =
-    saved_without m (λ name. are.stand.trees name ∙ no_tree _ records (tree_records (top_keys records)) (find (λ r. bytes_eq r.head.name name) (tree_records (top_keys records))))
-
 -- ---- counts
 
-kept_items : (links : List Link) → (kept_in links).count ≡ kept_count (info_key (keyed_records links)) (item_heads (top_keys (keyed_records links)))
-unfolding kept_in
-kept_items links = refl
+kept_items : (links : List Link) → (kept_in links).count
+    ≡ kept_count (info_key (keyed_records links)) (item_heads (top_keys (keyed_records links))) + length (all_places_named (file_classes (info_key (keyed_records links))) (tree_records (top_keys (keyed_records links))))
+unfolding kept_with
+kept_items links =
+    let classes = file_classes (info_key (keyed_records links)) in
+    let headers = tree_records (top_keys (keyed_records links)) in
+    omega (arith, (all_idle classes headers).put)
 
 count_listed : (info : Option KeyedRecord) → list_count (info_head info) ≡ option_map_or (λ r. 1) info 0
 count_listed None = refl
@@ -116,12 +110,13 @@ module _ (file : List ℕ) (r : Recovered) (made : is_unborn file ≡ false) (re
         pub segments : s.segments ≡ after.chain.segments
         pub classes : s.classes ≡ r.registry
         pub heads : s.heads ≡ r.table.heads
+        pub trees : s.trees ≡ r.trees
         pub info : s.info ≡ r.info
         pub name : s.name ≡ r.name
         pub nbytes_name : s.nbytes_name ≡ r.nbytes_name
         pub opened : s.opened ≡ length file
         pub costs : s.costs ≡ 0
-        pub closable : IsClosable s.segments s.heads s.info s.name
+        pub closable : IsClosable s.segments s.heads s.info (baskets_of s) s.name
 
       module _ (s : SessionState) (keeps : KeepsMade s) where
         its_chain : HasChain left s.segments clean.now
@@ -129,6 +124,13 @@ module _ (file : List ℕ) (r : Recovered) (made : is_unborn file ≡ false) (re
 
         its_keys : AreKeysOf (keyed_records left) s.heads
         its_keys = subst (AreKeysOf (keyed_records left)) (sym keeps.heads) (clean.clean.keys r.table.heads rec.keys)
+
+        its_trees : AreTreesOf (keyed_records left) s.trees
+        its_trees =
+            let info = clean.clean.info in
+            let headers = clean.clean.headers in
+            let are = trees_still (keyed_records links) (keyed_records left) r.trees (λ i. trees_at (file_classes (info i)) (headers i)) rec.trees in
+            subst (AreTreesOf (keyed_records left)) (sym keeps.trees) are
 
         its_info : s.info ≡ info_head (info_key (keyed_records left))
         its_info = keeps.info ∙ rec.info ∙ sym (ap info_head clean.clean.info)
@@ -145,7 +147,7 @@ module _ (file : List ℕ) (r : Recovered) (made : is_unborn file ≡ false) (re
           its_count =
               let items = items_same (keyed_records left) s.heads m its_keys its_records (λ h. 0) in
               let listed : list_count s.info ≡ list_count (info_head (info_key (keyed_records left))) = ap list_count its_info in
-              omega (arith, kept_items left, items.long, listed, count_listed (info_key (keyed_records left)), keeps.closable.count)
+              omega (arith, kept_items left, items.long, listed, count_listed (info_key (keyed_records left)), places_count (file_classes (info_key (keyed_records left))) (tree_records (top_keys (keyed_records left))) s.trees its_trees.each, keeps.closable.count)
 
           holds_made : HoldsState s m clean.now
           holds_made = record {
@@ -153,12 +155,14 @@ module _ (file : List ℕ) (r : Recovered) (made : is_unborn file ≡ false) (re
             chain = its_chain;
             head = subst (HasOpenHead clean.now) (sym keeps.nbytes_name) (image_open m reads left clean.now clean.front clean.chain.chain its_records).head;
             records = saved_records m reads left clean.now clean.front clean.chain.chain its_records;
-            classes = keeps.classes ∙ rec.classes ∙ ap (λ (n : State). n.classes) (reads_one file rec.m m rec.reads reads);
+            stands = stand_for s left m (sym (keeps.classes ∙ rec.classes ∙ ap (λ (n : State). n.classes) (reads_one file rec.m m rec.reads reads))) its_keys its_trees its_records;
             keys = its_keys;
+            items = items_of_clean clean.now left m clean.chain.chain its_records clean.clean.none;
+            trees = its_trees;
             info = its_info;
             name = kept_name left ∙ sym its_name;
             count = its_count;
-            held = λ less. omega (arith, held_is_limited file links rec.chain.chain, clean.clean.need.held, keeps.opened, keeps.costs);
+            held = λ less. omega (arith, held_is_limited file links m rec.chain.chain (records_of m reads) rec.headers, (clean.clean.need none_pending).held, keeps.opened, keeps.costs);
           }
 
           pub stands_made : (text : List ℕ) → v.said ≡ Some text → StandsFor v s m text
@@ -179,13 +183,9 @@ module _ (file : List ℕ) (r : Recovered) (made : is_unborn file ≡ false) (re
 
 -- ---- what is kept
 
-size_within : (kept : KeptRecords) → heads_size kept.heads ≤ close_need kept
-unfolding close_need
-size_within kept = omega (arith, sum_by-cons padded_length (list_length kept) (free_length kept ∷ []))
-
 -- what is written of the keys of a file that can be closed
-pub size_low : (segments : List Segment) (heads : List KeyHead) (info : Option KeyHead) (name : List ℕ) → IsClosable segments heads info name → heads_size heads < 2 ^ 64
-size_low segments heads info name closable = omega (arith, closable.room, size_within (kept_with name heads (record_count segments)))
+pub size_low : (segments : List Segment) (heads : List KeyHead) (info : Option KeyHead) (baskets name : List ℕ) → IsClosable segments heads info baskets name → heads_size heads < 2 ^ 64
+size_low segments heads info baskets name closable = let low = (kept_bounds segments heads info baskets name closable).0 in omega (arith, low)
 
 -- ---- the host
 

@@ -1,53 +1,92 @@
 -- What a session keeps of a file that is just made, and what it stands for.
-use Rattle.std.proofs.{Common.{◌≡◌, ℕ, ◌+◌, ◌≤◌, List, [], length, Option, Some, None, Bool, true, if◌then◌else◌, refl, sym, ap, subst, ◌∙◌, arith}, lemmas.Option.{same_Some}}
-use Rattle.std.specs.{Prelude.{MatchBool, slice_get}, FinMap.{get, get-empty, same_map}, List.{list_all}, Option.{option_map}}
-use Rattle.rio_num.specs.Word.{name_order}
+use Rattle.std.proofs.{Common.{◌≡◌, inl, inr, ℕ, zero, suc, ◌+◌, ◌<◌, ◌≤◌, ◌&&◌, not, nat_lt, List, [], ◌∷◌, ◌++◌, length, Option, Some, None, Bool, true, false, if◌then◌else◌, refl, sym, ap, subst, ◌∙◌, arith}, lemmas.Bool.{and_from, and_parts, ltb-true}, lemmas.Option.{same_Some}, lemmas.List.{Sorted.{IsPermutation-refl}, Sums.{sum_by-cons}}}
+use Rattle.std.specs.{Prelude.{MatchBool, slice_get}, List.{list_all, sum_by, Sorted.{IsPermutation}}, Str.{bytes_eq}}
 use Rattle.rio_host.specs.Host.{Any, Becomes, View}
 use Rattle.rio_key.specs.declared.head.KeyHead.{KeyHead}
 use Rattle.rio_dir.specs.Unborn.{is_unborn}
 use Rattle.rio_chain.specs.{Chains.{HasChain, HoldsChain}, Placing.{file_end, record_count}, Segments.{Link}, Stops.{KeepsFront}, declared.segment.Segment.{Segment}}
 use Rattle.rio_close.specs.EndWord.{SaysEnd}
 use Rattle.rio_machine.specs.State.{State, empty_state}
-use Rattle.rio_machine.proofs.OrderLaws.{names_tie, names_total}
-use Rattle.rio_state.specs.{Closing.{close_need, kept_in, name_in}, KeyedRecords.{KeyedRecord, keyed_records}, Left.{HasOpenHead, info_head, open_end}, DirectoryKeys.{AreKeysOf}}
-use Rattle.rio_state.specs.Reads.{AreRecordsOf}
-use Rattle.rio_step.specs.Runs.{saved_of, saved_tree}
-use Rattle.rio_step.proofs.ClosedLaws.{saved_keeps_the_rest}
+use Rattle.rio_state.specs.{Closing.{close_need, kept_in, kept_with, name_in}, Contents.{file_classes}, KeyedRecords.{KeyedRecord, info_key, is_outdated, is_tree_key, is_tree_record, keyed_records, object_records, top_keys, tree_records}, Left.{HasOpenHead, info_head, open_end}, DirectoryKeys.{AreKeysOf}}
+use Rattle.rio_state.specs.{Reads.{AreRecordsOf}}
+use Rattle.rio_state.proofs.{KeysFollow.{items_in}, Members.{In, in_filter, in_map, in_right, passing}}
+use Rattle.rio_effect.specs.AllItems.{AreAllItems}
+use Rattle.rio_effect.proofs.AllItems.{items_from}
 use Rattle.rio_create.specs.NewFile.{IsNewFile, first_length, first_links, first_segments, nbytes_name_of, new_file}
 use Rattle.rio_create.proofs.Lengths.{key_long}
-use Rattle.rio_recover.specs.{Closable.{IsClosable, is_owned}, Whole.{HoldsDirectory}}
-use Rattle.rio_session.specs.{Opening.{BeginsOn, OpensMade}, Session.{HoldsState, SessionState, StandsFor}}
+use Rattle.rio_recover.specs.{Closable.{IsClosable, is_owned}, Trees.{AreTreesOf, places_of, trees_at}, Whole.{HoldsDirectory}, declared.trees.TreeAt.{TreeAt}}
+use Rattle.rio_session.specs.{Items.{IsOfKeys}, Opening.{BeginsOn, OpensMade}, Session.{HoldsState, SessionState, StandsFor}}
+use Rattle.rio_session.proofs.{ItemsOpened.{items_of, tree_keys_of}, TreesRead.{records_saved}}
 
--- a state without trees has no pending rows
-pub saved_without : (m : State) → ((name : List ℕ) → get m.trees name ≡ None) → saved_of m ≡ m
-unfolding saved_of
-saved_without m none =
-    let same : (saved_of m).trees ≡ m.trees = same_map names_total names_tie (saved_of m).trees m.trees (λ name. saved_keeps_the_rest m name ∙ ap (option_map saved_tree) (none name) ∙ sym (none name)) in
-    λ i. record m { trees = same i }
+-- ---- keys and trees
 
-saved_empty : saved_of empty_state ≡ empty_state
-saved_empty = saved_without empty_state (λ name. get-empty name_order name)
+-- keys and trees that stand for a file's stand for the state as which it reads
+pub stand_for : (s : SessionState) (links : List Link) (m : State) → m.classes ≡ s.classes → AreKeysOf (keyed_records links) s.heads → AreTreesOf (keyed_records links) s.trees → AreRecordsOf (keyed_records links) m → IsOfKeys s m
+stand_for s links m classes keys trees is = record {
+  classes = classes;
+  keys = items_of (keyed_records links) s.heads s.trees m keys trees is;
+  trees = tree_keys_of (keyed_records links) s.heads s.trees m keys trees is;
+}
+
+-- without keys there are no trees
+no_headers : (records : List KeyedRecord) → AreKeysOf records [] → (headers : List KeyedRecord) → tree_records (top_keys records) ≡ headers → headers ≡ []
+no_headers records keys [] same = refl
+no_headers records keys (r ∷ rs) same =
+    let among : In r (tree_records (top_keys records)) = subst (λ (hs : List KeyedRecord). In r hs) (sym same) (inl refl) in
+    absurd (items_in records [] keys r.head (in_map (λ (s : KeyedRecord). s.head) r (object_records (top_keys records) ++ tree_records (top_keys records)) (in_right r (object_records (top_keys records)) (tree_records (top_keys records)) among)))
+
+cycle_within : (r : KeyedRecord) (rs : List KeyedRecord) → In r rs → r.head.cycle ≤ sum_by (λ x. x.head.cycle) rs
+cycle_within r [] i = absurd i
+cycle_within r (s ∷ rs) (inl same) = omega (arith, ap (λ (x : KeyedRecord). x.head.cycle) same, sum_by-cons (λ (x : KeyedRecord). x.head.cycle) s rs)
+cycle_within r (s ∷ rs) (inr i) = omega (arith, cycle_within r rs i, sum_by-cons (λ (x : KeyedRecord). x.head.cycle) s rs)
+
+-- a tree's key that doesn't count has one of a greater cycle beside it
+no_tree_key : (tops : List KeyedRecord) → tree_records tops ≡ [] → (k : ℕ) (s : KeyedRecord) → In s tops → is_tree_key s.head ≡ true → sum_by (λ x. x.head.cycle) tops < s.head.cycle + k → ⊥
+no_tree_key tops none zero s i tree low = let within = cycle_within s tops i in absurd (omega (arith, within, low))
+no_tree_key tops none (suc k) s i tree low = by (is_outdated tops s) refl (λ t j e f. no_tree_key tops none k t j e f)
+  where
+    by : (b : Bool) → is_outdated tops s ≡ b → ((t : KeyedRecord) → In t tops → is_tree_key t.head ≡ true → sum_by (λ x. x.head.cycle) tops < t.head.cycle + k → ⊥) → ⊥
+    by false fresh again = subst (λ (rs : List KeyedRecord). In s rs) none (in_filter (is_tree_record tops) s tops i (and_from _ _ tree (ap not fresh)))
+    by true old again =
+        let p = passing (λ t. is_tree_key t.head && bytes_eq t.head.name s.head.name && nat_lt s.head.cycle t.head.cycle) tops old in
+        let parts = and_parts (is_tree_key p.x.head && bytes_eq p.x.head.name s.head.name) (nat_lt s.head.cycle p.x.head.cycle) p.passes in
+        let higher = ltb-true s.head.cycle p.x.head.cycle parts.1 in
+        again p.x p.among (and_parts (is_tree_key p.x.head) (bytes_eq p.x.head.name s.head.name) parts.0).0 (omega (arith, low, higher))
+
+-- so no header is outdated
+items_new : (links : List Link) → AreKeysOf (keyed_records links) [] → AreAllItems links
+items_new links keys =
+    let tops = top_keys (keyed_records links) in
+    items_from (keyed_records links) (λ s i tree. absurd (no_tree_key tops (no_headers (keyed_records links) keys (tree_records tops) refl) (suc (sum_by (λ x. x.head.cycle) tops)) s i tree (omega arith)))
+
+no_trees : (records : List KeyedRecord) → AreKeysOf records [] → AreTreesOf records []
+no_trees records keys = record {
+  ordered = tt;
+  each = subst (λ (hs : List KeyedRecord). IsPermutation (trees_at (file_classes (info_key records)) hs) []) (sym (no_headers records keys (tree_records (top_keys records)) refl)) (IsPermutation-refl []);
+}
 
 -- ---- what is kept
 
-kept_empty : (segments : List Segment) (name : List ℕ) → length name ≤ 200 → file_end segments ≤ 700 → record_count segments ≡ 1 → list_all (is_owned None []) segments ≡ true → IsClosable segments [] None name
+kept_empty : (segments : List Segment) (name : List ℕ) → length name ≤ 200 → file_end segments ≤ 700 → record_count segments ≡ 1 → list_all (is_owned None [] []) segments ≡ true → IsClosable segments [] None [] name
 unfolding close_need
 kept_empty segments name short low one owned = record {
   sized = refl;
   fit = refl;
   placed = refl;
   listed = tt;
+  stored = refl;
   owned = owned;
   short = omega (arith, short);
   count = one;
   room = omega (arith, low, one, short, key_long name short);
 }
 
-pub kept_new : (segments : List Segment) (heads : List KeyHead) (name own : List ℕ) → length name ≤ 200 → segments ≡ first_segments name → file_end segments ≤ 700 → heads ≡ [] → own ≡ name
-    → IsClosable segments heads None own
-kept_new segments heads name own short segments_are low none same =
+pub kept_new : (segments : List Segment) (heads : List KeyHead) (trees : List TreeAt) (name own : List ℕ) → length name ≤ 200 → segments ≡ first_segments name → file_end segments ≤ 700 → heads ≡ [] → trees ≡ [] → own ≡ name
+    → IsClosable segments heads None (places_of trees) own
+kept_new segments heads trees name own short segments_are low none no_tree same =
     let one : record_count segments ≡ 1 = ap record_count segments_are in
-    subst (λ (n : List ℕ). IsClosable segments heads None n) (sym same) (subst (λ (hs : List KeyHead). IsClosable segments hs None name) (sym none) (kept_empty segments name short low one (ap (list_all (is_owned None [])) segments_are)))
+    let kept = kept_empty segments name short low one (ap (list_all (is_owned None [] [])) segments_are) in
+    subst (λ (x : List KeyHead × List TreeAt × List ℕ). IsClosable segments x.0 None (places_of x.1) x.2) (λ i. (sym none i, sym no_tree i, sym same i)) kept
 
 -- the directory record is within the first record
 pub directory_within : (segments : List Segment) (name : List ℕ) (nbytes_name : ℕ) → segments ≡ first_segments name → nbytes_name ≡ nbytes_name_of name → HoldsDirectory nbytes_name segments
@@ -61,6 +100,7 @@ pub record KeepsNew (s : SessionState) (name : List ℕ) : Type 0 where
   pub segments : s.segments ≡ first_segments name
   pub classes : s.classes ≡ []
   pub heads : s.heads ≡ []
+  pub trees : s.trees ≡ []
   pub info : s.info ≡ None
   pub name_is : s.name ≡ name
   pub nbytes_name : s.nbytes_name ≡ nbytes_name_of name
@@ -70,13 +110,17 @@ pub record KeepsNew (s : SessionState) (name : List ℕ) : Type 0 where
 holds_empty : (s : SessionState) (name : List ℕ) (datime : ℕ) (file : List ℕ) → KeepsNew s name → IsNewFile name datime file → HoldsState s empty_state file
 holds_empty s name datime file keeps new =
     let links = new.links in
+    let keys = subst (λ (heads : List KeyHead). AreKeysOf (keyed_records links) heads) (sym keeps.heads) new.keys in
+    let trees = subst (λ (trees : List TreeAt). AreTreesOf (keyed_records links) trees) (sym keeps.trees) (no_trees (keyed_records links) new.keys) in
     record {
       links = links;
       chain = subst (λ (segments : List Segment). HasChain links segments file) (sym keeps.segments) new.chain;
       head = subst (λ (n : ℕ). HasOpenHead file n) (sym keeps.nbytes_name) new.head;
-      records = subst (λ (m : State). AreRecordsOf (keyed_records links) m) (sym saved_empty) new.records;
-      classes = keeps.classes;
-      keys = subst (λ (heads : List KeyHead). AreKeysOf (keyed_records links) heads) (sym keeps.heads) new.keys;
+      records = subst (λ (m : State). AreRecordsOf (keyed_records links) m) (sym (records_saved (keyed_records links) empty_state new.records)) new.records;
+      stands = stand_for s links empty_state (sym keeps.classes) keys trees new.records;
+      keys = keys;
+      items = items_new links new.keys;
+      trees = trees;
       info = keeps.info ∙ sym (ap (λ (info : Option KeyedRecord). info_head info) new.info);
       name = new.name_is ∙ sym keeps.name_is;
       count = new.count ∙ sym (ap record_count keeps.segments);
@@ -108,7 +152,7 @@ chain_new old new name datime segments told made are file holds = by old.holds r
 
 -- the name of its first record is the one that is kept
 pub kept_name : (links : List Link) → (kept_in links).name ≡ name_in (keyed_records links)
-unfolding kept_in
+unfolding kept_with
 kept_name links = refl
 
 from_start : (i : ℕ) → 0 + i ≡ i

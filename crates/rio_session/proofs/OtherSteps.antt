@@ -1,26 +1,29 @@
 -- Refused commands and those that only print are their steps.
-use Rattle.std.proofs.Common.{◌≡◌, inl, inr, ◌==◌, ◌||◌, ℕ, ◌+◌, ◌-◌, List, [], ◌∷◌, sum, Option, Some, None, Bool, true, false, refl, sym, ap, subst, ◌∙◌}
+use Rattle.std.proofs.Common.{◌≡◌, inl, inr, ◌==◌, ◌||◌, ℕ, ◌+◌, ◌-◌, List, [], ◌∷◌, length, sum, Option, Some, None, Result, Ok, Bool, true, false, refl, sym, ap, subst, ◌∙◌}
 use Rattle.std.proofs.{lemmas.Bool.{eqb-true, le-ltb}}
 use Rattle.std.specs.{Prelude.{if◌then◌else◌, slice_get}, List.{Contains, list_all, list_any}}
+use Rattle.rio_num.specs.Room.{Room}
 use Rattle.rio_key.specs.declared.head.KeyHead.{KeyHead}
 use Rattle.rio_dir.specs.Table.{head_of, is_at_cycle}
+use Rattle.rio_tree_table.specs.declared.table.KeptTree.{KeptTree}
 use Rattle.rio_chain.specs.{Chains.{HasRecordSegment}, Placing.{end_after, file_end, record_count, space_of}}
 use Rattle.rio_chain.specs.{Segments.{HoldsLink, HoldsLinks, Link, RecordAt, link_length}, declared.segment.Segment.{Segment, TheVariants.{Record, Gap}}}
 use Rattle.rio_chain.proofs.OneChain.{link_one}
 use Rattle.rio_machine.specs.{RefusalText.{refusal_number}, State.{State}, declared.command.Command.{Command, TheVariants.{Ls}}}
 use Rattle.rio_machine.specs.{declared.command.Outcome.TheVariants.{Accepted, Refused}, declared.refusal.Refusal.{Refusal, TheVariants.{Full}}}
-use Rattle.rio_reply.specs.Told.{listing_of}
-use Rattle.rio_reply.proofs.Listings.{listing_is}
+use Rattle.rio_reply.specs.Told.{item_listing_of}
+use Rattle.rio_reply.proofs.ItemListings.{listing_told}
 use Rattle.rio_state.specs.Closing.{close_need, end_limit, is_full, lay_all}
-use Rattle.rio_step.specs.{Costs.{cost_of}, Refusing.{FullMark, refusal_of, refusals}, ReplyText.{text_of}}
-use Rattle.rio_step.specs.Step.{Stepped, outcome_of, refused, reply_to, state_behind}
+use Rattle.rio_step.specs.{Costs.{cost_of}, KeptItems.{AreItemsOfState}, Refusing.{FullMark, refusal_of, refusals}, ReplyText.{text_of}}
+use Rattle.rio_step.specs.Step.{Stepped, items_listed, items_of, outcome_of, refused, reply_to, state_behind}
 use Rattle.rio_step.proofs.LowestLaws.{lowest_is_told}
 use Rattle.rio_state.proofs.Members.{In, all_at, contains_in, found, in_contained}
 use Rattle.rio_recover.specs.Closable.{IsClosable, begins_at, is_placed, kept_with, list_count}
 use Rattle.rio_session.specs.{Behind.{IsOfKeys}, Kept.{LinksChange, changes_by, kept_by}}
-use Rattle.rio_session.specs.Marks.{command_lengths, lists_after, mark_of_command, state_need}
+use Rattle.rio_session.specs.Marks.{baskets_after, command_lengths, lists_after, mark_of_command, state_need}
 use Rattle.rio_session.specs.Session.{LacksRoomIfFull, SessionState, next_of}
 use Rattle.rio_session.proofs.{Needs.{need_by_keys}, Refused.{changes_done, changes_refused, cost_accepted, cost_refused, kept_done, kept_refused, refused_anyway, step_accepted, step_refused}, Replies.{IsStill}}
+use Rattle.rio_session.specs.SessionState.{baskets_of, kept_trees}
 
 -- ---- records by their keys
 
@@ -92,12 +95,13 @@ module _ (s : SessionState) (m : State) (c : Command) (refusal : Refusal) (is : 
 
 -- ---- accepted commands without changes
 
-module _ (s : SessionState) (m : State) (keys : IsOfKeys s m) (kept : IsClosable s.segments s.heads s.info s.name)
-    (c : Command) (free : refusal_of m c None ≡ None) (stays : state_behind m c ≡ m) (lengthless : command_lengths m c ≡ []) (lists : lists_after s c ≡ list_count s.info) where
-  need_is : state_need s.name (lists_after s c) (state_behind m c) ≡ close_need (kept_with s.name s.heads (record_count s.segments))
+module _ (s : SessionState) (m : State) (keys : IsOfKeys s m) (kept : IsClosable s.segments s.heads s.info (baskets_of s) s.name)
+    (c : Command) (free : refusal_of m c None ≡ None) (stays : state_behind m c ≡ m) (lengthless : command_lengths m c ≡ []) (lists : lists_after s c ≡ list_count s.info)
+    (baskets : baskets_after s c ≡ length (baskets_of s)) where
+  need_is : state_need s.name (lists_after s c) (baskets_after s c) (state_behind m c) ≡ close_need (kept_with s.name s.heads (record_count s.segments))
   need_is =
-      (λ i. state_need s.name (lists i) (stays i))
-      ∙ need_by_keys s.name (list_count s.info) s.heads m keys.keys kept.sized
+      (λ i. state_need s.name (lists i) (baskets i) (stays i))
+      ∙ need_by_keys s.heads (kept_trees s) m keys.keys keys.trees kept.sized s.name (list_count s.info) (length (baskets_of s))
       ∙ ap (λ (k : ℕ). close_need (kept_with s.name s.heads k)) (sym kept.count)
 
   abbrev mark_by : List ℕ → ℕ → Option FullMark
@@ -135,15 +139,21 @@ module _ (s : SessionState) (m : State) (keys : IsOfKeys s m) (kept : IsClosable
 
 -- ---- ls
 
-module _ (s : SessionState) (m : State) (keys : IsOfKeys s m) (kept : IsClosable s.segments s.heads s.info s.name) (free : refusal_of m Ls None ≡ None) where
+listing_is : (heads : List KeyHead) (trees : List KeptTree) (m : State) → AreItemsOfState heads trees m → item_listing_of trees heads ≡ text_of (items_listed (items_of m))
+listing_is heads trees m are =
+    let room : Room = record { bytes = item_listing_of trees heads; spare = 0 } in
+    let r : Result Room ⊥ = Ok room in
+    listing_told heads trees r refl m are
+
+module _ (s : SessionState) (m : State) (keys : IsOfKeys s m) (kept : IsClosable s.segments s.heads s.info (baskets_of s) s.name) (free : refusal_of m Ls None ≡ None) where
   pub ls_still : IsStill s m Ls 0
   unfolding command_lengths
-  ls_still = accepted_still s m keys kept Ls free refl refl refl refl refl (cost_accepted m Ls free)
+  ls_still = accepted_still s m keys kept Ls free refl refl refl refl refl refl (cost_accepted m Ls free)
 
-  pub ls_told : listing_of s.heads ≡ text_of (next_of s m Ls).reply
+  pub ls_told : item_listing_of (kept_trees s) s.heads ≡ text_of (next_of s m Ls).reply
   unfolding command_lengths
-  ls_told = accepted_told s m keys kept Ls free refl refl refl (listing_of s.heads) (listing_is s.heads m keys.keys)
+  ls_told = accepted_told s m keys kept Ls free refl refl refl refl (item_listing_of (kept_trees s) s.heads) (listing_is s.heads (kept_trees s) m keys.keys)
 
   pub ls_outcome : outcome_of (next_of s m Ls).reply ≡ Accepted
   unfolding command_lengths
-  ls_outcome = accepted_outcome s m keys kept Ls free refl refl refl refl
+  ls_outcome = accepted_outcome s m keys kept Ls free refl refl refl refl refl

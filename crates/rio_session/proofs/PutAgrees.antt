@@ -7,17 +7,17 @@ use Rattle.rio_value.specs.declared.value.Value.{Value}
 use Rattle.rio_dir.specs.Table.{with_head}
 use Rattle.rio_chain.specs.{Changes.{with_record}, Placing.{place_of, with_segment}, Segments.{Link, segment_of}, declared.key_words.KeyWords.{KeyWords}, declared.segment.Segment.{Segment}}
 use Rattle.rio_chain.proofs.Records.{key_long}
+use Rattle.rio_model.specs.StateClasses.{StateClasses}
 use Rattle.rio_machine.specs.{Limits.{head_length}, State.{State}, declared.command.Command.TheVariants.{Put}}
-use Rattle.rio_state.specs.{Closing.{close_need, kept_in}, DirectoryKeys.{AreKeysOf}, KeyedRecords.{info_key, keyed_records}, Left.{info_head}, OneMore.{keyed_bytes}, Reads.{AreRecordsOf}}
-use Rattle.rio_state.proofs.{MoreRecords.{record_more}, Stays.{info_stays}}
-use Rattle.rio_step.specs.{Refusing.{refusal_of}, Step.{state_behind}}
+use Rattle.rio_state.specs.{Closing.{close_need, kept_in}, DirectoryKeys.{AreKeysOf}, KeyedRecords.{keyed_records}, Left.{info_head}, Reads.{AreRecordsOf}, TreeLengths.{none_pending}}
+use Rattle.rio_step.specs.{Refusing.{refusal_of}, Runs.{saved_of}, Step.{state_behind}}
 use Rattle.rio_effect.specs.FileRuns.{Change, added, added_length, added_place, all_changed, lengths_of, mark_of_changes}
 use Rattle.rio_effect.specs.{Laws.{IsPutRecord}, ObjectRecord.{data_of_put, key_of_put, object_key, record_of_put, words_of_put}}
-use Rattle.rio_effect.proofs.{FileChanges.{put_bytes, put_length, segments_follow}, KeysOfState.{keys_stand_for_state}, Needs.{need_grows}, PutEffect.{put_takes_effect, puts_have_records}, PutKeys.{put_key_follows}}
+use Rattle.rio_effect.proofs.{FileChanges.{put_bytes, put_length, segments_follow}, Needs.{need_grows}, PutEffect.{puts_have_records, saved_put_takes_effect}, PutKeys.{saved_put_key_follows}}
 use Rattle.rio_recover.specs.Closable.{is_sized, list_count}
-use Rattle.rio_session.specs.{Kept.{kept_by, place_of_put}, Marks.{command_lengths, mark_of_command, state_need}, Session.{HoldsState, SessionState}, Sound.{IsSoundState}}
+use Rattle.rio_session.specs.{Kept.{kept_by, place_of_put}, Marks.{command_lengths, mark_of_command, state_need}, Session.{HoldsState, SessionState}, SessionState.{baskets_of, kept_trees}, Sound.{IsSoundState}}
 use Rattle.rio_session.proofs.{Agreeing.{AgreesWithFile}, FileNeeds.{mark_by, mark_by_file, mark_by_kept, need_in}, Keeps.{all_with}, Needs.{need_by_keys}}
-use Rattle.rio_session.proofs.{PutEffects.{put_classes, put_low}, States.{Known, known}}
+use Rattle.rio_session.proofs.{PutEffects.{put_classes, put_free, put_info, put_low, put_trees}, PutKeys.{put_stands, put_tree_keys}}
 
 module _ (s : SessionState) (m : State) (file : List ℕ) (h : HoldsState s m file) (sound : IsSoundState s) (fresh : s.failed ≡ false) (soon : s.datime < 2 ^ 32)
     (name : List ℕ) (v : Value) (named : is_item_text name ≡ true) where
@@ -63,38 +63,39 @@ module _ (s : SessionState) (m : State) (file : List ℕ) (h : HoldsState s m fi
   unfolding object_key
   key_sized = eq-eqb (length (written_key key)) (head_length key.class key.name) (key_long (words_of_put m at s.datime name v) (length (data_of_put m at s.datime name v)))
 
-  kn : Known h.links s.heads m
-  kn = known h.links s.heads m h.records h.keys
-
   module _ (free : refusal_of m (Put name v) None ≡ None) where
     low : place_of_put s m name v < 2 ^ 32
     low = put_low s m file h sound fresh soon name v named free
 
+    classes : StateClasses m.classes
+    classes = put_classes s m file h sound fresh soon name v named free
+
     pr : IsPutRecord m (place_of_put s m name v) s.datime name v
-    pr = puts_have_records m at s.datime name v None low soon (put_classes s m file h sound fresh soon name v named free) named free
+    pr = puts_have_records m at s.datime name v None low soon classes named free
 
     keys_after : AreKeysOf (keyed_records after) (with_head key s.heads)
-    keys_after = put_key_follows h.links m s.heads at s.datime name v None low soon kn.records named free h.keys
+    keys_after = saved_put_key_follows h.links m s.heads at s.datime name v None low soon h.records named free h.keys
 
-    records_after : AreRecordsOf (keyed_records after) (state_behind m (Put name v))
-    records_after = put_takes_effect h.links m at s.datime name v None low soon kn.records named free
+    records_after : AreRecordsOf (keyed_records after) (saved_of (state_behind m (Put name v)))
+    records_after = saved_put_takes_effect h.links m at s.datime name v None low soon (put_free s m file h sound fresh soon name v named free) h.records named free
 
-    info_same : info_key (keyed_records after) ≡ info_key (keyed_records h.links)
-    info_same = info_stays (keyed_records h.links) (keyed_records after) (keyed_bytes key its_record) (record_more h.links at its_record key pr.read) pr.key.other
-
-    put_need : close_need (kept_in (all_changed h.links (added (words_of_put m 0 s.datime name v) (data_of_put m 0 s.datime name v) ∷ []))) ≡ state_need s.name (list_count s.info) (state_behind m (Put name v))
+    put_need : close_need (kept_in (all_changed h.links (added (words_of_put m 0 s.datime name v) (data_of_put m 0 s.datime name v) ∷ [])))
+        ≡ state_need s.name (list_count s.info) (length (baskets_of s)) (state_behind m (Put name v))
     put_need =
-        let grows = need_grows file h.links at its_record key h.chain.chain pr.read pr.key.top pr.key.object in
-        let stand = keys_stand_for_state (keyed_records after) (with_head key s.heads) (state_behind m (Put name v)) keys_after records_after in
+        let grows = need_grows none_pending file h.links at its_record key h.chain.chain pr.read pr.key.top pr.key.object in
+        let stand = put_stands s m h.stands name v free at classes in
+        let tree_keys = put_tree_keys s m h.stands name v free at classes in
+        let info = put_info s m file h sound fresh soon name v named free in
+        let trees = put_trees s m file h sound fresh soon name v named free in
         ap (λ (l : List Link). close_need (kept_in l)) after_is
-        ∙ need_in after (with_head key s.heads) s.info (state_behind m (Put name v)) s.name keys_after records_after (grows.name ∙ h.name) (h.info ∙ ap info_head (sym info_same))
-        ∙ sym (need_by_keys s.name (list_count s.info) (with_head key s.heads) (state_behind m (Put name v)) stand (all_with is_sized key s.heads key_sized (sound.kept fresh).sized))
+        ∙ need_in after (with_head key s.heads) s.trees s.info (saved_of (state_behind m (Put name v))) s.name keys_after trees records_after (grows.name ∙ h.name) (h.info ∙ ap info_head (sym info))
+        ∙ sym (need_by_keys (with_head key s.heads) (kept_trees s) (state_behind m (Put name v)) stand tree_keys (all_with is_sized key s.heads key_sized (sound.kept fresh).sized) s.name (list_count s.info) (length (baskets_of s)))
 
     put_lengths : lengths_of (added (words_of_put m 0 s.datime name v) (data_of_put m 0 s.datime name v) ∷ []) ≡ command_lengths m (Put name v)
     unfolding command_lengths
     put_lengths = ap (λ (n : ℕ). n ∷ []) (put_length m at s.datime name v ∙ pr.long)
 
-    put_mark : mark_of_changes h.links (added (words_of_put m 0 s.datime name v) (data_of_put m 0 s.datime name v) ∷ []) ≡ mark_of_command s m (Put name v)
+    put_mark : mark_of_changes none_pending h.links (added (words_of_put m 0 s.datime name v) (data_of_put m 0 s.datime name v) ∷ []) ≡ mark_of_command s m (Put name v)
     put_mark =
         mark_by_file h.links changes
         ∙ (λ i. mark_by (sym h.chain.same i) (put_lengths i) (put_need i))

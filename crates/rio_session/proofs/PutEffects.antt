@@ -1,20 +1,22 @@
 -- What the record of a put makes of the state that a session stands for.
-use Rattle.std.proofs.Common.{◌≡◌, inl, ℕ, ◌+◌, ◌<◌, ◌≤◌, ◌^◌, List, length, map, None, true, false, refl, sym, ap, subst, ◌∙◌, arith}
+use Rattle.std.proofs.Common.{◌≡◌, ◌==◌, ◌&&◌, inl, ℕ, ◌+◌, ◌<◌, ◌≤◌, ◌^◌, List, length, map, None, true, false, refl, sym, ap, subst, ◌∙◌, arith}
+use Rattle.std.proofs.lemmas.Bool.{eqb-true}
 use Rattle.rio_num.specs.Word.{is_item_text}
 use Rattle.rio_key.specs.declared.head.KeyHead.{KeyHead}
 use Rattle.rio_value.specs.declared.value.Value.{Value}
-use Rattle.rio_chain.specs.{Adjoining.{AreSegments}, Changes.{with_record}, Placing.{place_of}, Segments.{Link, segment_of}}
+use Rattle.rio_chain.specs.{Adjoining.{AreSegments}, Changes.{with_record}, Placing.{IsPlaceFor, place_of}, Segments.{Link, segment_of}}
 use Rattle.rio_model.specs.StateClasses.{StateClasses}
 use Rattle.rio_machine.specs.{State.{State}, declared.command.Command.TheVariants.{Put}}
-use Rattle.rio_state.specs.{Closing.{held_of, kept_in}, DirectoryKeys.{AreKeysOf}, KeyedRecords.{info_key, keyed_records}, Left.{info_head}, OneMore.{keyed_bytes}, Reads.{AreRecordsOf}}
-use Rattle.rio_state.proofs.{MoreRecords.{record_more}, Stays.{info_stays}}
+use Rattle.rio_state.specs.{Closing.{held_of, kept_in}, DirectoryKeys.{AreKeysOf}, KeyedRecords.{begins_at, info_key, is_top_key, keyed_records, top_keys, tree_records}, Left.{info_head}, OneMore.{HasOneMoreIn, keyed_bytes}, Reads.{AreRecordsOf}, TreeLengths.{none_pending}}
+use Rattle.rio_state.proofs.{Insertion.{filter_more}, Members.{none_from}, MoreRecords.{record_more}, ObjectStands.{trees_same}, Stays.{info_stays}}
 use Rattle.rio_step.specs.{Costs.{cost_of}, Refusing.{refusal_of}, Runs.{saved_of}, Step.{state_behind}}
 use Rattle.rio_effect.specs.{Laws.{IsPutRecord}, More.{KeepsOneMore}, ObjectRecord.{key_of_put, record_of_put}}
-use Rattle.rio_effect.proofs.{FileChanges.{put_length}, Held.{chain_segments, held_grows}, Needs.{need_grows}, PutEffect.{puts_have_records, saved_put_takes_effect}, PutKeys.{put_key_follows}}
+use Rattle.rio_effect.proofs.{AllItems.{items_stay_with}, FileChanges.{put_length}, Held.{chain_segments, held_grows}, Needs.{need_grows}, OldLists.{place_apart}, PutEffect.{puts_have_records, saved_put_takes_effect}, PutKeys.{saved_put_key_follows}}
 use Rattle.rio_close.proofs.Fitting.{count_with, place_low}
+use Rattle.rio_recover.specs.Trees.{AreTreesOf}
 use Rattle.rio_session.specs.{Effects.{IsKeptAfter, TakesEffect, links_by}, Kept.{kept_by, place_of_put}}
 use Rattle.rio_session.specs.{Session.{HoldsState, SessionState}, Sound.{IsSoundState}}
-use Rattle.rio_session.proofs.States.{Known, known}
+use Rattle.rio_session.proofs.TreesOfFile.{headers_still}
 
 module _ (s : SessionState) (m : State) (file : List ℕ) (h : HoldsState s m file) (sound : IsSoundState s) (fresh : s.failed ≡ false) (soon : s.datime < 2 ^ 32)
     (name : List ℕ) (v : Value) (named : is_item_text name ≡ true) (free : refusal_of m (Put name v) None ≡ None) where
@@ -44,33 +46,48 @@ module _ (s : SessionState) (m : State) (file : List ℕ) (h : HoldsState s m fi
       λ i. place_of (h.chain.same i) (long i)
 
   pub put_classes : StateClasses m.classes
-  put_classes = subst StateClasses h.classes sound.classes
+  put_classes = subst StateClasses (sym h.stands.classes) sound.classes
 
-  kn : Known h.links s.heads m
-  kn = known h.links s.heads m h.records h.keys
+  placed : IsPlaceFor (map segment_of h.links) (length (record_of_put m (place_of_put s m name v) s.datime name v)) (place_of_put s m name v)
+  placed = inl put_placed
+
+  -- no record begins there
+  pub put_free : begins_at (keyed_records h.links) (place_of_put s m name v) ≡ false
+  put_free = none_from (λ r. r.head.seek == at) (keyed_records h.links) (λ r i same. place_apart file at (length bytes) r h.links h.chain.chain placed i (eqb-true r.head.seek at same))
 
   pr : IsPutRecord m (place_of_put s m name v) s.datime name v
   pr = puts_have_records m at s.datime name v None put_low soon put_classes named free
 
   grows : KeepsOneMore (kept_in h.links) (kept_in after) key
-  grows = need_grows file h.links at bytes key h.chain.chain pr.read pr.key.top pr.key.object
+  grows = need_grows none_pending file h.links at bytes key h.chain.chain pr.read pr.key.top pr.key.object
 
   records_after : AreRecordsOf (keyed_records after) (saved_of (state_behind m (Put name v)))
-  records_after = saved_put_takes_effect h.links m at s.datime name v None put_low soon h.records named free
+  records_after = saved_put_takes_effect h.links m at s.datime name v None put_low soon put_free h.records named free
 
   keys_after : AreKeysOf (keyed_records after) (kept_by s m (Put name v)).heads
-  keys_after = put_key_follows h.links m s.heads at s.datime name v None put_low soon kn.records named free h.keys
+  keys_after = saved_put_key_follows h.links m s.heads at s.datime name v None put_low soon h.records named free h.keys
 
-  info_after : info_key (keyed_records after) ≡ info_key (keyed_records h.links)
-  info_after = info_stays (keyed_records h.links) (keyed_records after) (keyed_bytes key bytes) (record_more h.links at bytes key pr.read) pr.key.other
+  more : HasOneMoreIn (keyed_records h.links) (keyed_records after) (keyed_bytes key bytes)
+  more = record_more h.links at bytes key pr.read
+
+  pub put_info : info_key (keyed_records (with_record (place_of_put s m name v) (record_of_put m (place_of_put s m name v) s.datime name v) h.links)) ≡ info_key (keyed_records h.links)
+  put_info = info_stays (keyed_records h.links) (keyed_records after) (keyed_bytes key bytes) more pr.key.other
+
+  pub put_trees : AreTreesOf (keyed_records (with_record (place_of_put s m name v) (record_of_put m (place_of_put s m name v) s.datime name v) h.links)) s.trees
+  put_trees =
+      let tops = filter_more (λ r. is_top_key r.head) (keyed_bytes key bytes) (keyed_records h.links) (keyed_records after) more pr.key.top in
+      let headers : tree_records (top_keys (keyed_records after)) ≡ tree_records (top_keys (keyed_records h.links)) = trees_same (top_keys (keyed_records h.links)) (top_keys (keyed_records after)) (keyed_bytes key bytes) tops pr.key.object in
+      headers_still (keyed_records h.links) (keyed_records after) s.trees put_info headers h.trees
 
   held_after : held_of after ≤ held_of h.links + cost_of m (Put name v)
-  held_after = held_grows file h.links m at s.datime name v put_low soon h.chain.chain (inl put_placed) put_classes named free
+  held_after = held_grows none_pending file h.links m at s.datime name v put_low soon h.chain.chain placed put_classes named free
 
   put_is_kept : IsKeptAfter s m (Put name v) h.links after
   put_is_kept = record {
     keys = keys_after;
-    info = h.info ∙ ap info_head (sym info_after);
+    trees = put_trees;
+    items = items_stay_with h.links at bytes key pr.read (inl (λ i. pr.key.top i && pr.key.object i)) h.items;
+    info = h.info ∙ ap info_head (sym put_info);
     name = grows.name;
     count = grows.count ∙ ap (λ (n : ℕ). n + 1) h.count ∙ sym (count_with at (length bytes) s.segments);
     held = held_after;

@@ -1,42 +1,32 @@
 -- A put is the step of its command.
-use Rattle.std.proofs.Common.{◌≡◌, inl, inr, ℕ, ◌+◌, ◌-◌, ◌*◌, ◌^◌, ◌<◌, ◌≤◌, List, [], ◌∷◌, length, min, sum, add-zero, Option, Some, None, Bool, true, false, refl, sym, ap, subst, ◌∙◌, arith}
-use Rattle.std.proofs.{lemmas.Bool.{cases_lt, eq-eqb, eqb-true}, lemmas.List.Sums.{sum_by-cons}}
-use Rattle.std.specs.{Prelude.{if◌then◌else◌, unwrap_or}, List.{find, list_all, sum_by}}
+use Rattle.std.proofs.Common.{◌≡◌, ℕ, ◌+◌, ◌-◌, ◌*◌, ◌^◌, ◌<◌, ◌≤◌, List, [], ◌∷◌, length, min, sum, Option, Some, None, Bool, true, false, refl, sym, ap, subst, ◌∙◌, arith}
+use Rattle.std.proofs.lemmas.Bool.{eq-eqb, eqb-true}
+use Rattle.std.specs.{Prelude.{if◌then◌else◌, unwrap_or}, List.{list_all}}
 use Rattle.rio_num.specs.Word.{is_item_text}
 use Rattle.rio_key.specs.{declared.head.KeyHead.{KeyHead}, Written.{written_key}}
 use Rattle.rio_value.specs.declared.value.Value.{Value}
-use Rattle.rio_dir.specs.Table.{head_of, is_at_cycle, with_head}
-use Rattle.rio_chain.specs.{Placing.{file_end, place_of, record_count}, Segments.{chain_end}, declared.record.NewRecord.{NewRecord}}
-use Rattle.rio_chain.proofs.{PutChain.{map_end}, Records.{key_long}}
+use Rattle.rio_dir.specs.Table.{head_of, with_head}
+use Rattle.rio_chain.specs.{Placing.{file_end, place_of, record_count}, declared.record.NewRecord.{NewRecord}}
+use Rattle.rio_chain.proofs.Records.{key_long}
 use Rattle.rio_model.specs.StateClasses.{StateClasses}
-use Rattle.rio_machine.specs.{Limits.{head_length}, State.{State, next_cycle}, declared.command.Command.TheVariants.{Put}}
+use Rattle.rio_machine.specs.{Limits.{head_length}, State.{State}, declared.command.Command.TheVariants.{Put}}
 use Rattle.rio_machine.specs.{declared.command.Outcome.TheVariants.{Refused}, declared.refusal.Refusal.{TheVariants.{Full}}}
-use Rattle.rio_state.specs.Closing.{close_need, closing_lengths, end_limit, free_length, held_of, is_full, kept_count, kept_in, list_length, padded_length}
-use Rattle.rio_state.specs.KeyedRecords.{info_key, keyed_records}
-use Rattle.rio_step.specs.{ItemKeys.{AreKeysOfState, told_by_key}, Refusing.{FullMark, object_class, put_value, refusal_of}}
+use Rattle.rio_state.specs.Closing.{close_need, free_length, held_of, is_full, list_length, padded_length}
+use Rattle.rio_step.specs.{KeptItems.{AreItemsOfState}, Refusing.{FullMark, object_class, put_value, refusal_of}}
 use Rattle.rio_step.specs.{Costs.{cost_of, room_limit, value_size}, ReplyText.{text_of}}
-use Rattle.rio_step.specs.Step.{Stepped, listed_object, object_put, outcome_of, refused, state_behind}
-use Rattle.rio_effect.specs.Laws.{kept_by_keys}
+use Rattle.rio_step.specs.Step.{Stepped, object_put, outcome_of, refused, state_behind}
 use Rattle.rio_effect.specs.ObjectRecord.{data_of_put, key_of_put, object_key, words_of_put}
-use Rattle.rio_effect.proofs.NeedsByKeys.{need_by_keys as keys_need}
 use Rattle.rio_judge.specs.{Judging.{IsStep}, declared.work.StoredObject.{StoredObject}}
 use Rattle.rio_recover.specs.Closable.{is_sized, kept_with, list_count}
 use Rattle.rio_session.specs.{Behind.{IsOfKeys}, Effects.{IsChangeOf}, Kept.{place_of_put}, Marks.{command_lengths, mark_of_command, state_need}}
-use Rattle.rio_session.specs.{Puts.{IsStoredRecord, putting}, Session.{HoldsState, SessionState, next_of}}
-use Rattle.rio_session.proofs.{Keeps.{all_with, length_with, size_with}, KeysBehind.{keys_behind}, Needs.{list_counted, need_by_keys}, Places.{end_most, full_is, sum_one}}
+use Rattle.rio_session.specs.{Items.{AreTreeKeys}, Puts.{IsStoredRecord, putting}, Session.{HoldsState, SessionState, next_of}, SessionState.{baskets_of, kept_trees}}
+use Rattle.rio_session.proofs.{Keeps.{all_with, length_with, size_with}, Lacking.{held_most, lacking, sum_two}, Needs.{need_by_keys}, Places.{end_most, full_is, sum_one}}
 use Rattle.rio_session.proofs.{PutFacts.{changes_are, cost_is, kept_is, place_is, text_is}, Refused.{changes_refused, kept_refused, refused_full, step_refused}}
-use Rattle.rio_session.proofs.{Replies.{IsStill}, States.{Known, known, of_keys}}
-
-sum_two : (f : ℕ → ℕ) (a b : ℕ) → sum_by f (a ∷ b ∷ []) ≡ f a + f b
-sum_two f a b = sum_by-cons f a (b ∷ []) ∙ ap (λ (n : ℕ). f a + n) (sum_by-cons f b [] ∙ add-zero (f b))
-
--- where what is held passes the limit, the costs pass what there is room for
-lacking : (bound costs cost held : ℕ) → (costs < 2 ^ 64 - 1 → held ≤ bound + costs + 10000) → end_limit < held + cost + 100000 → room_limit < bound + min (costs + cost) (2 ^ 64 - 1)
-lacking bound costs cost held was much = elim (cases_lt costs (2 ^ 64 - 1)) [ inl low ↦ omega (arith, was low, much, low) | inr high ↦ omega (arith, high) ]
+use Rattle.rio_session.proofs.{PutKeys.{put_stands, put_tree_keys}, Replies.{IsStill}, States.{of_keys}}
 
 -- ---- the put
 
-module _ (s : SessionState) (m : State) (keys : IsOfKeys s m) (count : record_count s.segments ≡ 1 + list_count s.info + length s.heads) (sized : list_all is_sized s.heads ≡ true)
+module _ (s : SessionState) (m : State) (keys : IsOfKeys s m) (sound : StateClasses s.classes) (count : record_count s.segments ≡ 1 + list_count s.info + length s.heads + length (baskets_of s)) (sized : list_all is_sized s.heads ≡ true)
     (v : Value) (o : StoredObject) (place : ℕ) (low : place < 2 ^ 32) (soon : s.datime < 2 ^ 32) (named : is_item_text o.name ≡ true)
     (free : refusal_of m (Put o.name v) None ≡ None) (step : IsStep m v o) (new : head_of o.name (Some o.cycle) s.heads ≡ None) where
   abbrev n : ℕ
@@ -64,24 +54,22 @@ module _ (s : SessionState) (m : State) (keys : IsOfKeys s m) (count : record_co
   unfolding object_key
   key_name = refl
 
-  key_told : told_by_key key ≡ listed_object ((o.name, next_cycle m o.name), put_value m v)
-  unfolding object_key
-  key_told = refl
+  classes : StateClasses m.classes
+  classes = subst StateClasses (sym keys.classes) sound
 
-  key_new : find (is_at_cycle key.name key.cycle) s.heads ≡ None
-  unfolding object_key
-  key_new = ap (λ (k : ℕ). find (is_at_cycle o.name k) s.heads) (sym step.cycle) ∙ new
+  stand_after : AreItemsOfState (with_head (key_of_put m place s.datime o.name v) s.heads) (kept_trees s) (state_behind m (Put o.name v))
+  stand_after = put_stands s m keys o.name v free place classes
 
-  pub stand_after : AreKeysOfState (with_head key s.heads) (state_behind m (Put o.name v))
-  stand_after = keys_behind s.heads m o.name v key keys.keys key_told key_new
+  tree_keys : AreTreeKeys (with_head (key_of_put m place s.datime o.name v) s.heads) (kept_trees s)
+  tree_keys = put_tree_keys s m keys o.name v free place classes
 
   abbrev need : ℕ
   need = close_need (kept_with s.name (with_head key s.heads) (record_count s.segments + 1))
 
-  need_is : state_need s.name (list_count s.info) (state_behind m (Put o.name v)) ≡ need
+  need_is : state_need s.name (list_count s.info) (length (baskets_of s)) (state_behind m (Put o.name v)) ≡ need
   need_is =
-      let more : 1 + list_count s.info + length (with_head key s.heads) ≡ record_count s.segments + 1 = omega (arith, length_with key s.heads, count) in
-      need_by_keys s.name (list_count s.info) (with_head key s.heads) (state_behind m (Put o.name v)) stand_after (all_with is_sized key s.heads key_sized sized)
+      let more : 1 + list_count s.info + length (with_head key s.heads) + length (baskets_of s) ≡ record_count s.segments + 1 = omega (arith, length_with key s.heads, count) in
+      need_by_keys (with_head key s.heads) (kept_trees s) (state_behind m (Put o.name v)) stand_after tree_keys (all_with is_sized key s.heads key_sized sized) s.name (list_count s.info) (length (baskets_of s))
       ∙ ap (λ (k : ℕ). close_need (kept_with s.name (with_head key s.heads) k)) more
 
   pub lengths_are : command_lengths m (Put o.name v) ≡ n ∷ []
@@ -122,7 +110,8 @@ module _ (s : SessionState) (m : State) (keys : IsOfKeys s m) (count : record_co
       cost = cost_is s place o made r m v (sym keys.classes) free step cost costs;
       stands = record {
         classes = keys.classes;
-        keys = subst (λ (k : ℕ). AreKeysOfState (with_head (key_of_put m k s.datime o.name v) s.heads) (state_behind m (Put o.name v))) own_place stand_after;
+        keys = subst (λ (k : ℕ). AreItemsOfState (with_head (key_of_put m k s.datime o.name v) s.heads) (kept_trees s) (state_behind m (Put o.name v))) own_place stand_after;
+        trees = subst (λ (k : ℕ). AreTreeKeys (with_head (key_of_put m k s.datime o.name v) s.heads) (kept_trees s)) own_place tree_keys;
       };
     }
 
@@ -151,7 +140,7 @@ module _ (s : SessionState) (m : State) (keys : IsOfKeys s m) (count : record_co
 
 -- ---- on a file
 
-module _ (s : SessionState) (m : State) (file : List ℕ) (h : HoldsState s m file) (sound : StateClasses s.classes) (count : record_count s.segments ≡ 1 + list_count s.info + length s.heads) (sized : list_all is_sized s.heads ≡ true)
+module _ (s : SessionState) (m : State) (file : List ℕ) (h : HoldsState s m file) (sound : StateClasses s.classes) (count : record_count s.segments ≡ 1 + list_count s.info + length s.heads + length (baskets_of s)) (sized : list_all is_sized s.heads ≡ true)
     (v : Value) (o : StoredObject) (place : ℕ) (low : place < 2 ^ 32) (soon : s.datime < 2 ^ 32) (named : is_item_text o.name ≡ true)
     (free : refusal_of m (Put o.name v) None ≡ None) (step : IsStep m v o) (new : head_of o.name (Some o.cycle) s.heads ≡ None) where
   abbrev its_key : KeyHead
@@ -166,43 +155,14 @@ module _ (s : SessionState) (m : State) (file : List ℕ) (h : HoldsState s m fi
   abbrev of : IsOfKeys s m
   of = of_keys s m file h
 
-  abbrev kn : Known h.links s.heads m
-  kn = known h.links s.heads m h.records h.keys
-
   -- what is held where there is no room
   module _ (full : is_full s.segments (size_of ∷ []) its_need ≡ true) where
-    by_keys : kept_by_keys h.links s.heads ≡ kept_with s.name s.heads (record_count s.segments)
-    unfolding kept_in
-    by_keys =
-        let listed = list_counted s.info (info_key (keyed_records h.links)) h.info in
-        let all : kept_count (info_key (keyed_records h.links)) s.heads ≡ record_count s.segments = omega (arith, listed, count) in
-        λ i. record { name = h.name i; heads = s.heads; count = all i }
-
-    closing_is : closing_lengths (kept_with s.name s.heads (record_count s.segments)) ≡ closing_lengths (kept_in h.links)
-    closing_is = ap closing_lengths (sym by_keys) ∙ keys_need h.links s.heads m h.keys kn.records
-
-    first_of_two : List ℕ → ℕ
-    first_of_two [] = 0
-    first_of_two (x ∷ xs) = x
-
-    second_of_two : List ℕ → ℕ
-    second_of_two [] = 0
-    second_of_two (x ∷ xs) = first_of_two xs
-
-    held_is : held_of h.links ≡ file_end s.segments + (list_length (kept_with s.name s.heads (record_count s.segments)) + 3 + (free_length (kept_with s.name s.heads (record_count s.segments)) + 3))
-    unfolding held_of
-    held_is =
-        let end : chain_end h.links ≡ file_end s.segments = sym (map_end 100 h.links) ∙ ap file_end (sym h.chain.same) in
-        ap (λ (l : List ℕ). chain_end h.links + sum_by (λ k. k + 3) l) (sym closing_is)
-        ∙ ap (λ (e : ℕ). e + sum_by (λ k. k + 3) (closing_lengths (kept_with s.name s.heads (record_count s.segments)))) end
-        ∙ ap (λ (k : ℕ). file_end s.segments + k) (sum_two (λ k. k + 3) (list_length (kept_with s.name s.heads (record_count s.segments))) (free_length (kept_with s.name s.heads (record_count s.segments))))
-
     need_most : its_need ≤ list_length (kept_with s.name s.heads (record_count s.segments)) + head_length o.class o.name + 3 + (free_length (kept_with s.name s.heads (record_count s.segments)) + 13)
     unfolding close_need
     need_most =
-        let long : length (written_key its_key) ≡ head_length o.class o.name = eqb-true (length (written_key its_key)) (head_length its_key.class its_key.name) (key_sized s m of count sized v o place low soon named free step new) ∙ ap (λ (x : List ℕ × List ℕ). head_length x.0 x.1) (λ i. (key_class s m of count sized v o place low soon named free step new i, key_name s m of count sized v o place low soon named free step new i)) in
+        let long : length (written_key its_key) ≡ head_length o.class o.name = eqb-true (length (written_key its_key)) (head_length its_key.class its_key.name) (key_sized s m of sound count sized v o place low soon named free step new) ∙ ap (λ (x : List ℕ × List ℕ). head_length x.0 x.1) (λ i. (key_class s m of sound count sized v o place low soon named free step new i, key_name s m of sound count sized v o place low soon named free step new i)) in
         omega (arith, sum_two padded_length (list_length (kept_with s.name (with_head its_key s.heads) (record_count s.segments + 1))) (free_length (kept_with s.name (with_head its_key s.heads) (record_count s.segments + 1))), size_with its_key s.heads, long)
 
     pub full_lacks : (cost : ℕ) → cost ≡ 500 + o.length → head_length o.class o.name ≤ 229 → room_limit < 3 * s.opened + min (s.costs + cost) (2 ^ 64 - 1)
     full_lacks cost is short = lacking (3 * s.opened) s.costs cost (held_of h.links) h.held
-        (omega (arith, held_is, need_most, full_is s.segments size_of its_need full, end_most size_of s.segments, short, is))
+        (omega (arith, held_most s m file h count, need_most, full_is s.segments size_of its_need full, end_most size_of s.segments, short, is))

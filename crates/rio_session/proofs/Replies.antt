@@ -61,8 +61,10 @@ counted_state s cost m file h = record {
   chain = h.chain;
   head = h.head;
   records = h.records;
-  classes = h.classes;
+  stands = record { classes = h.stands.classes; keys = h.stands.keys; trees = h.stands.trees };
   keys = h.keys;
+  trees = h.trees;
+  items = h.items;
   info = h.info;
   name = h.name;
   count = h.count;
@@ -130,7 +132,7 @@ module _ (old new : View) (before after : SessionState) (text : List ℕ) (cost 
   said_goes m c outcome is keys still same = record {
     outcome_is = same;
     follows = said_follows m c is still;
-    behind = subst (λ (n : State). IsOfKeys after n) (sym still.stays) (subst (λ (a : SessionState). IsOfKeys a m) (sym is.kept) (record { classes = keys.classes; keys = keys.keys }));
+    behind = subst (λ (n : State). IsOfKeys after n) (sym still.stays) (subst (λ (a : SessionState). IsOfKeys a m) (sym is.kept) (record { classes = keys.classes; keys = keys.keys; trees = keys.trees }));
   }
 
   pub said_went : (m : State) (c : Command) (said : List ℕ) (outcome : Outcome) → Said text cost old new before after → IsReply before m c text cost → outcome ≡ outcome_of (next_of before m c).reply

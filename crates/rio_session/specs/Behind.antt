@@ -4,15 +4,11 @@ use Rattle.rio_host.specs.Host.{Unwritten, View}
 use Rattle.rio_chain.specs.Becoming.{ChainBecomes}
 use Rattle.rio_machine.specs.{State.{State}, declared.command.Command.{Command, TheVariants.{Bad, Get, Scan, Ls}}, declared.command.Outcome.{Outcome, TheVariants.{Refused}}}
 use Rattle.rio_machine.specs.declared.refusal.Refusal.{Refusal}
-use Rattle.rio_step.specs.{Costs.{cost_of}, ItemKeys.{AreKeysOfState}, Step.{outcome_of}}
+use Rattle.rio_step.specs.{Costs.{cost_of}, Step.{outcome_of}}
 use Rattle.rio_session.specs.{Kept.{all_done, changes_by, kept_by}, Session.{FollowsCommand, SessionState, next_of, with_cost}}
+pub use Rattle.rio_session.specs.Items.{IsOfKeys}
 
 -- ---- states
-
--- a state that has the kept classes and for whose objects the kept keys stand; there always is one
-pub record IsOfKeys (s : SessionState) (m : State) : Type 0 where
-  pub classes : m.classes ≡ s.classes
-  pub keys : AreKeysOfState s.heads m
 
 -- Classes and keys tell what becomes of the command. They don't tell whether an object can be had in the version that a get asks for: it
 -- stands in the file.

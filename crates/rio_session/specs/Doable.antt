@@ -1,11 +1,13 @@
 -- What a command is to do, as a session does it.
-use Rattle.std.specs.Prelude.{◌≡◌, Some, None, true}
+use Rattle.std.specs.Prelude.{◌≡◌, ◌⊎◌, Some, None, true}
 use Rattle.rio_dir.specs.Table.{head_of}
 use Rattle.rio_machine.specs.declared.command.Command.{Command}
 use Rattle.rio_step.specs.Statable.{IsStatable}
-use Rattle.rio_judge.specs.{Judging.{IsJudgementOfStates, WorkCanBeDone, is_judged}, declared.work.Judged.TheVariants.{Accepted}}
-use Rattle.rio_judge.specs.declared.work.Work.{Work, TheVariants.{Class, Put, Delete, Get, Ls}}
-use Rattle.rio_session.specs.{Lists.{IsDeclarable}, Puts.{IsStored}, Session.{SessionState}}
+use Rattle.rio_judge.specs.{Judging.{is_judged}, Trees.{AnyWorkCanBeDone, IsJudgementOfItems}, declared.work.JudgedWithTrees.TheVariants.{Accepted}}
+use Rattle.rio_judge.specs.declared.work.{AnyWork.{AnyWork, TheVariants.{Item, Tree}}, Work.{Work, TheVariants.{Class, Put, Delete, Get, Ls}}}
+use Rattle.rio_judge.specs.declared.work.TreeWork.TheVariants.{Delete as DeleteTree}
+use Rattle.rio_key.specs.declared.head.KeyHead.{KeyHead}
+use Rattle.rio_session.specs.{Lists.{IsDeclarable}, Puts.{IsStored}, Session.{SessionState}, SessionState.{kept_trees}}
 
 -- It can be done by what the session keeps: no rule and no limit is broken, and no key has the name and cycle yet; or the key is the session's.
 abbrev pub CanBeDone : SessionState → Work → Type 0
@@ -15,17 +17,24 @@ CanBeDone s (Delete h) = head_of h.name (Some h.cycle) s.heads ≡ Some h
 CanBeDone s (Get h version) = head_of h.name (Some h.cycle) s.heads ≡ Some h
 CanBeDone s Ls = Unit {0}
 
--- the work is what the command is to do, by the classes and keys that the session keeps
-pub record IsToDo (s : SessionState) (c : Command) (work : Work) : Type 0 where
+-- the same of all work; of trees only a delete is done
+abbrev pub AnyCanBeDone : SessionState → AnyWork → Type 0
+AnyCanBeDone s (Item work) = CanBeDone s work
+AnyCanBeDone s (Tree (DeleteTree h)) = head_of h.name (Some h.cycle) s.heads ≡ Some h
+AnyCanBeDone s (Tree other) = ⊥
+
+-- the work is what the command is to do, by the classes, keys and trees that the session keeps
+pub record IsToDo (s : SessionState) (c : Command) (work : AnyWork) : Type 0 where
   pub built : is_judged c ≡ true
   pub statable : IsStatable c
-  pub can : WorkCanBeDone s.classes s.heads c work
-  pub judged : IsJudgementOfStates s.classes s.heads c (Accepted work)
+  pub can : AnyWorkCanBeDone s.classes s.heads (kept_trees s) c work
+  pub judged : IsJudgementOfItems s.classes s.heads (kept_trees s) c (Accepted work)
+
+-- the delete of the object or of the tree of this key
+abbrev pub IsToDelete : SessionState → Command → KeyHead → Type 0
+IsToDelete s c h = IsToDo s c (Item (Delete h)) ⊎ IsToDo s c (Tree (DeleteTree h))
 
 -- work that doesn't read the file again
-abbrev pub ReadsNothing : Work → Type 0
-ReadsNothing (Class d) = Unit {0}
-ReadsNothing (Put o) = Unit {0}
-ReadsNothing (Delete h) = Unit {0}
-ReadsNothing (Get h version) = ⊥
-ReadsNothing Ls = Unit {0}
+abbrev pub ReadsNothing : AnyWork → Type 0
+ReadsNothing (Item (Get h version)) = ⊥
+ReadsNothing other = Unit {0}

@@ -4,7 +4,9 @@ use Rattle.rio_chain.specs.{Placing.{record_count}, Segments.{IsChain, Link}}
 use Rattle.rio_machine.specs.{State.{State}, declared.command.Command.{Command}}
 use Rattle.rio_state.specs.{Closing.{held_of, kept_in}, DirectoryKeys.{AreKeysOf}, KeyedRecords.{info_key, keyed_records}, Left.{info_head}, Reads.{AreRecordsOf}}
 use Rattle.rio_step.specs.{Costs.{cost_of}, Refusing.{refusal_of}, ReplyText.{text_of}, Runs.{saved_of}, Step.{reply_to, state_behind}}
-use Rattle.rio_session.specs.{Behind.{IsOfKeys}, Changing.{Changing}, Kept.{all_done, changes_by, kept_by}, Marks.{mark_of_command}, SessionState.{SessionState}}
+use Rattle.rio_effect.specs.AllItems.{AreAllItems}
+use Rattle.rio_recover.specs.Trees.{AreTreesOf}
+use Rattle.rio_session.specs.{Items.{IsOfKeys}, Changing.{Changing}, Kept.{all_done, changes_by, kept_by}, Marks.{mark_of_command}, SessionState.{SessionState}}
 
 -- the links after the first k changes of a command that isn't refused
 abbrev pub links_by : SessionState → State → Command → ℕ → List Link → List Link
@@ -17,6 +19,8 @@ ArePassed s m c k links = (j : ℕ) → j < k → (image : List ℕ) × IsChain 
 -- what is kept beside a file after a command's changes is that of the links
 pub record IsKeptAfter (s : SessionState) (m : State) (c : Command) (links after : List Link) : Type 0 where
   pub keys : AreKeysOf (keyed_records after) (kept_by s m c).heads
+  pub trees : AreTreesOf (keyed_records after) (kept_by s m c).trees
+  pub items : AreAllItems after
   pub info : (kept_by s m c).info ≡ info_head (info_key (keyed_records after))
   pub name : (kept_in after).name ≡ (kept_in links).name
   pub count : (kept_in after).count ≡ record_count (kept_by s m c).segments

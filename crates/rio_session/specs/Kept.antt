@@ -1,14 +1,17 @@
 -- What a command changes: of the records of the file, and of what a session keeps beside it.
-use Rattle.std.specs.{Prelude.{ℕ, List, [], ◌∷◌, length, Option, Some, None, if◌then◌else◌}, List.{fold}}
+use Rattle.std.specs.{Prelude.{ℕ, List, [], ◌∷◌, ◌++◌, ◌==◌, length, map, Option, Some, None, if◌then◌else◌}, List.{filter, find, fold, list_any}, Option.{option_map_or}}
 use Rattle.rio_key.specs.declared.head.KeyHead.{KeyHead}
 use Rattle.rio_types.specs.declared.class.ClassDef.{ClassDef}
 use Rattle.rio_value.specs.declared.value.Value.{Value}
 use Rattle.rio_dir.specs.Table.{head_of, with_head, without_head}
-use Rattle.rio_chain.specs.{Changes.{with_record, without_record}, Placing.{place_of, with_segment}, Releasing.{without_segment}, Segments.{Link}, declared.segment.Segment.{Segment}}
+use Rattle.rio_chain.specs.{Changes.{with_record, without_record}, Placing.{place_of, with_segment}, Releasing.{without_segment}, Segments.{Link}}
+use Rattle.rio_chain.specs.declared.segment.Segment.{Segment, TheVariants.{Record, Gap}}
 use Rattle.rio_machine.specs.State.{State}
 use Rattle.rio_machine.specs.declared.command.Command.{Command, TheVariants.{Bad, Class, Put, Delete, Tree, Fill, Save, Get, Scan, Ls}}
 use Rattle.rio_step.specs.Refusing.{with_class}
+use Rattle.rio_state.specs.Trees.{basket_places}
 use Rattle.rio_effect.specs.{ClassRecord.{key_of_class, record_of_class}, ObjectRecord.{key_of_put, record_of_put}}
+use Rattle.rio_recover.specs.{Cleaning.{without_segments}, TreeTable.{has_name, without_tree}, declared.trees.TreeAt.{TreeAt}}
 use Rattle.rio_session.specs.{Marks.{is_refused}, SessionState.{SessionState}}
 
 -- ---- records
@@ -40,6 +43,31 @@ place_of_put s m name v = place_of s.segments (length (record_of_put m 0 s.datim
 abbrev pub place_of_class : SessionState → State → ClassDef → ℕ
 place_of_class s m class = place_of s.segments (length (record_of_class s.info m 0 s.datime class))
 
+-- ---- the records of a delete
+
+-- where the records of segments begin
+abbrev pub record_places : List Segment → List ℕ
+record_places [] = []
+record_places (Record p n ∷ segments) = p ∷ record_places segments
+record_places (Gap p n ∷ segments) = record_places segments
+
+-- those of these places, in the order of the segments
+abbrev pub places_among : List ℕ → List Segment → List ℕ
+places_among places segments = filter (λ p. list_any (λ q. q == p) places) (record_places segments)
+
+-- where the record of this key stands, if there is one
+abbrev pub key_place : Option KeyHead → List ℕ
+key_place None = []
+key_place (Some h) = h.seek ∷ []
+
+-- where the baskets stand that the header of the tree of a name names, in order
+abbrev pub tree_places : SessionState → List ℕ → List ℕ
+tree_places s name = option_map_or (λ t. places_among (basket_places t.head) s.segments) (find (has_name name) s.trees) []
+
+-- the records that a delete releases, one after the other: the one of the key, and the baskets of a tree
+abbrev pub released_by : SessionState → List ℕ → ℕ → List ℕ
+released_by s name cycle = key_place (head_of name (Some cycle) s.heads) ++ tree_places s name
+
 -- ---- by a command that isn't refused
 
 -- No law can look into these: what they say of commands whose records aren't told here means nothing.
@@ -52,16 +80,19 @@ untold_segments segments = segments
 pub untold_heads : List KeyHead → List KeyHead
 untold_heads heads = heads
 
+pub untold_trees : List TreeAt → List TreeAt
+untold_trees trees = trees
+
 pub untold_list : Option KeyHead → Option KeyHead
 untold_list info = info
 
 abbrev pub untold_state : SessionState → SessionState
-untold_state s = record s { segments = untold_segments s.segments; heads = untold_heads s.heads; info = untold_list s.info }
+untold_state s = record s { segments = untold_segments s.segments; heads = untold_heads s.heads; trees = untold_trees s.trees; info = untold_list s.info }
 
 -- the changes of the file's records, one after the other
 abbrev pub changes_by : SessionState → State → Command → List LinksChange
 changes_by s m (Put name v) = let place = place_of_put s m name v in with_record place (record_of_put m place s.datime name v) ∷ []
-changes_by s m (Delete name cycle) = released_link (head_of name (Some cycle) s.heads)
+changes_by s m (Delete name cycle) = map without_record (released_by s name cycle)
 changes_by s m (Class class) = let place = place_of_class s m class in with_record place (record_of_class s.info m place s.datime class) ∷ released_link s.info
 changes_by s m (Bad line place) = []
 changes_by s m (Get name cycle version) = []
@@ -78,8 +109,9 @@ kept_by s m (Put name v) = let place = place_of_put s m name v in record s {
   heads = with_head (key_of_put m place s.datime name v) s.heads;
 }
 kept_by s m (Delete name cycle) = record s {
-  segments = released_segment (head_of name (Some cycle) s.heads) s.segments;
+  segments = without_segments (released_by s name cycle) s.segments;
   heads = without_head name cycle s.heads;
+  trees = without_tree name s.trees;
 }
 kept_by s m (Class class) = let place = place_of_class s m class in record s {
   segments = released_segment s.info (with_segment place (length (record_of_class s.info m place s.datime class)) s.segments);

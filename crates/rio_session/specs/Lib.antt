@@ -7,6 +7,7 @@ pub mod Does
 pub mod Effects
 pub mod FileSteps
 pub mod Gets
+pub mod Items
 pub mod Kept
 pub mod Lists
 pub mod Marks

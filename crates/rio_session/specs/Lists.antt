@@ -9,7 +9,7 @@ use Rattle.rio_state.specs.Closing.{close_need, end_limit, padded_length}
 use Rattle.rio_step.specs.Costs.{info_size}
 use Rattle.rio_effect.specs.ClassRecord.{list_key, list_key_size, list_record, next_list_cycle}
 use Rattle.rio_recover.specs.Closable.{kept_with}
-use Rattle.rio_session.specs.{Changing.{Changing}, Kept.{released_link, released_segment}, SessionState.{SessionState}}
+use Rattle.rio_session.specs.{Changing.{Changing}, Kept.{released_link, released_segment}, SessionState.{SessionState, baskets_of}}
 
 -- ---- a class that is declared
 
@@ -34,7 +34,7 @@ pub record CanBeListedAt (s : SessionState) (place : ℕ) : Type 0 where
   pub short : (start : ℕ) → length (written_list start s.classes) ≤ length_limit
   pub cycle : next_list_cycle s.info ≤ length s.classes + 1
   pub room : file_end (with_segment place (padded_length (list_key_size + info_size s.classes)) s.segments)
-      + close_need (kept_with s.name s.heads (2 + length s.heads)) ≤ end_limit
+      + close_need (kept_with s.name s.heads (2 + length s.heads + length (baskets_of s))) ≤ end_limit
 
 -- the record of the list of all classes, for this place
 pub record IsListRecord (s : SessionState) (place : ℕ) (made : NewRecord) : Type 0 where
@@ -51,7 +51,7 @@ pub record CanReplace (s : SessionState) (made : NewRecord) : Type 0 where
   pub spare : 4 ≤ made.bytes.spare
   pub cycle : made.head.cycle ≤ length s.classes + 1
   pub room : file_end (with_segment made.head.seek (length made.bytes.bytes) s.segments)
-      + close_need (kept_with s.name s.heads (2 + length s.heads)) ≤ end_limit
+      + close_need (kept_with s.name s.heads (2 + length s.heads + length (baskets_of s))) ≤ end_limit
 
 -- the put of the record, the release of the one before, and what is printed then
 abbrev pub listing : SessionState → NewRecord → List ℕ → ℕ → Changing

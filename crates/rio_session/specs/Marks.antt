@@ -1,12 +1,12 @@
 -- Which commands find no room.
-use Rattle.std.specs.{Prelude.{ℕ, ◌+◌, List, [], ◌∷◌, length, map, sum, Bool, Option, Some, None, is_some, if◌then◌else◌}, FinMap.{entries}}
+use Rattle.std.specs.{Prelude.{ℕ, ◌+◌, List, [], ◌∷◌, ◌++◌, codes, length, map, sum, Bool, Option, Some, None, is_some, if◌then◌else◌}, FinMap.{entries}}
 use Rattle.rio_key.specs.declared.head.KeyHead.{KeyHead}
 use Rattle.rio_value.specs.declared.value.Value.{Value}
 use Rattle.rio_chain.specs.{Placing.{file_end}, Record.{new_key}}
-use Rattle.rio_machine.specs.{Limits.{head_length}, State.{NameAndCycle, State}}
+use Rattle.rio_machine.specs.{Limits.{head_length}, State.{NameAndCycle, State, Tree as TreeOf}}
 use Rattle.rio_machine.specs.declared.command.Command.{Command, TheVariants.{Bad, Class, Put, Delete, Tree, Fill, Save, Get, Scan, Ls}}
 use Rattle.rio_step.specs.{Costs.{info_size, value_size}, Refusing.{FullMark, object_class_name, put_value, refusal_of, with_class}, Step.{state_behind}}
-use Rattle.rio_recover.specs.Closable.{list_count}
+use Rattle.rio_recover.specs.{Closable.{list_count}, TreeTable.{without_tree}, Trees.{places_of}, declared.trees.TreeAt.{TreeAt}}
 use Rattle.rio_state.specs.Closing.{KeptRecords, close_need, is_full, padded_length}
 use Rattle.rio_effect.specs.ClassRecord.{list_key_size}
 use Rattle.rio_session.specs.SessionState.{SessionState}
@@ -17,20 +17,36 @@ use Rattle.rio_session.specs.SessionState.{SessionState}
 abbrev pub key_of_object : NameAndCycle × Value → KeyHead
 key_of_object e = new_key (record { place = 0; directory = 100; datime = 0; cycle = e.0.1; class = object_class_name e.1; name = e.0.0; title = [] }) 0
 
--- What a file of this name and with so many class lists, one at most, keeps in a state, as far as a close writes of it. A file may have
--- a class list that lists no declared class. (No command makes a tree yet.)
-abbrev pub kept_of : List ℕ → ℕ → State → KeptRecords
-kept_of name lists m = let objects = entries m.objects in
-    record { name = name; heads = map key_of_object objects; count = 1 + lists + length objects }
+-- and of a tree
+abbrev pub key_of_tree : List ℕ × TreeOf → KeyHead
+key_of_tree e = new_key (record { place = 0; directory = 100; datime = 0; cycle = e.1.cycle; class = codes "TTree"; name = e.0; title = [] }) 0
+
+-- What a file of this name, with so many class lists, one at most, and so many baskets keeps in a state, as far as a close writes of it. A
+-- file may have a class list that lists no declared class. No rows are pending, so no tree has to be saved.
+abbrev pub kept_of : List ℕ → ℕ → ℕ → State → KeptRecords
+kept_of name lists baskets m = let objects = entries m.objects in let trees = entries m.trees in record {
+  name = name;
+  heads = map key_of_object objects ++ map key_of_tree trees;
+  count = 1 + lists + length objects + length trees + baskets;
+  trees = [];
+}
 
 -- how long the records of a close are in this state
-unfoldable pub state_need : List ℕ → ℕ → State → ℕ
-state_need name lists m = close_need (kept_of name lists m)
+unfoldable pub state_need : List ℕ → ℕ → ℕ → State → ℕ
+state_need name lists baskets m = close_need (kept_of name lists baskets m)
 
 -- how many class lists are kept after a command that isn't refused
 abbrev pub lists_after : SessionState → Command → ℕ
 lists_after s (Class class) = 1
 lists_after s other = list_count s.info
+
+-- which trees are kept then, and how many baskets their headers name
+abbrev pub trees_after : SessionState → Command → List TreeAt
+trees_after s (Delete name cycle) = without_tree name s.trees
+trees_after s other = s.trees
+
+abbrev pub baskets_after : SessionState → Command → ℕ
+baskets_after s c = length (places_of (trees_after s c))
 
 -- ---- a command's records
 
@@ -56,7 +72,7 @@ command_lengths m (Save name) = untold_lengths
 unfoldable pub mark_of_command : SessionState → State → Command → Option FullMark
 mark_of_command s m c =
     let lengths = command_lengths m c in
-    if is_full s.segments lengths (state_need s.name (lists_after s c) (state_behind m c))
+    if is_full s.segments lengths (state_need s.name (lists_after s c) (baskets_after s c) (state_behind m c))
     then Some (record { end = file_end s.segments; wanted = sum lengths })
     else None
 

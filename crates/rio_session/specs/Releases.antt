@@ -1,15 +1,31 @@
--- What it is to delete an object.
-use Rattle.std.specs.Prelude.{ℕ, List, [], ◌∷◌}
+-- What it is to delete an object, or a tree with its baskets.
+use Rattle.std.specs.{Prelude.{◌≡◌, ℕ, ◌==◌, List, [], ◌∷◌, map, nat_lt, true, false}, List.{list_all, list_any}}
 use Rattle.rio_key.specs.declared.head.KeyHead.{KeyHead}
 use Rattle.rio_dir.specs.Table.{without_head}
-use Rattle.rio_chain.specs.{Changes.{without_record}, Releasing.{without_segment}}
-use Rattle.rio_session.specs.{Changing.{Changing}, SessionState.{SessionState}}
+use Rattle.rio_chain.specs.{Changes.{without_record}, declared.segment.Segment.{Segment}}
+use Rattle.rio_recover.specs.{Cleaning.{without_segments}, Closable.{begins_at}, TreeTable.{without_tree}}
+use Rattle.rio_session.specs.{Changing.{Changing}, Kept.{released_by}, SessionState.{SessionState}}
 
--- the release of the record of this key, and what is printed then
+-- none of the places stands twice
+abbrev pub AreApart : List ℕ → Type 0
+AreApart [] = Unit {0}
+AreApart (p ∷ places) = (list_any (λ q. q == p) places ≡ false) × AreApart places
+
+-- A record begins at each of these places, none is the first, and none stands twice. They needn't be in order.
+pub record AreReleasable (segments : List Segment) (places : List ℕ) : Type 0 where
+  pub there : list_all (λ p. list_any (begins_at p) segments) places ≡ true
+  pub later : list_all (nat_lt 100) places ≡ true
+  pub apart : AreApart places
+
+-- the releases of the record of this key, and of the baskets of a tree, and what is printed then
 abbrev pub deleting : SessionState → KeyHead → List ℕ → Changing
 deleting s head text = record {
-  changes = without_record head.seek ∷ [];
-  kept = record s { segments = without_segment head.seek s.segments; heads = without_head head.name head.cycle s.heads };
+  changes = map without_record (released_by s head.name head.cycle);
+  kept = record s {
+    segments = without_segments (released_by s head.name head.cycle) s.segments;
+    heads = without_head head.name head.cycle s.heads;
+    trees = without_tree head.name s.trees;
+  };
   text = text;
   cost = 0;
 }

@@ -7,20 +7,24 @@ use Rattle.rio_machine.specs.declared.refusal.Refusal.TheVariants.{Full}
 use Rattle.rio_step.specs.{Costs.{cost_of, room_limit}, ReplyText.{text_of}, Runs.{saved_of, states_of_run}, Step.{Stepped, outcome_of, step}}
 use Rattle.rio_state.specs.{Closing.{held_of, kept_in}, DirectoryKeys.{AreKeysOf}, KeyedRecords.{info_key, keyed_records}}
 use Rattle.rio_state.specs.{Left.{HasOpenHead, IsLeftAs, IsMarkedOpen, info_head}, Reads.{AreRecordsOf}}
-use Rattle.rio_session.specs.{Kept.{kept_after}, Marks.{mark_of_command}}
+use Rattle.rio_effect.specs.AllItems.{AreAllItems}
+use Rattle.rio_recover.specs.Trees.{AreTreesOf}
+use Rattle.rio_session.specs.{Items.{IsOfKeys}, Kept.{kept_after}, Marks.{mark_of_command}}
 pub use Rattle.rio_session.specs.SessionState.{SessionState, with_cost}
 
 -- ---- what it stands for
 
--- The file reads as the state without its pending rows, and what the session keeps are its segments, classes, keys and name. All of its
--- records count.
+-- The file reads as the state, in which no rows are pending, and what the session keeps are its segments, classes, keys, trees and name. All
+-- of its records count, and no tree has an outdated header beside the one that counts.
 pub record HoldsState (s : SessionState) (m : State) (file : List ℕ) : Type 0 where
   pub links : List Link
   pub chain : HasChain links s.segments file
   pub head : HasOpenHead file s.nbytes_name
   pub records : AreRecordsOf (keyed_records links) (saved_of m)
-  pub classes : s.classes ≡ m.classes
+  pub stands : IsOfKeys s m
   pub keys : AreKeysOf (keyed_records links) s.heads
+  pub trees : AreTreesOf (keyed_records links) s.trees
+  pub items : AreAllItems links
   pub info : s.info ≡ info_head (info_key (keyed_records links))
   pub name : (kept_in links).name ≡ s.name
   pub count : (kept_in links).count ≡ record_count s.segments

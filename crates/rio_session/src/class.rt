@@ -11,6 +11,7 @@ use rio_reply::class_reply;
 
 impl Session {
     ghost use Rattle.std.specs.Prelude.{◌≡◌, false, IfOk};
+    ghost use Rattle.rio_judge.specs.declared.work.AnyWork.{AnyWork};
     ghost use Rattle.rio_judge.specs.declared.work.Work.{Work};
     ghost use Rattle.rio_machine.specs.declared.command.Command.{Command as Line};
     ghost use Rattle.rio_machine.specs.declared.command.Outcome.{Outcome as BecameOf};
@@ -63,7 +64,7 @@ impl Session {
         requires fresh { self.old.failed ≡ false }
         requires ready { IsReady (H.view host.old) self.old }
         requires can { CanBeDone self.old (Work.Class new) }
-        ensures does { (c : Line) → IsToDo self.old c (Work.Class new)
+        ensures does { (c : Line) → IsToDo self.old c (AnyWork.Item (Work.Class new))
             → Does (H.view host.old) (H.view host.new) self.old self.new c result }
         ensures reads { (H.view host.new).reads ≡ (H.view host.old).reads }
     {

@@ -53,14 +53,18 @@ impl Session {
     ghost use Rattle.rio_session.specs.Lists.{CanBeListedAt, CanReplace, IsListRecord, listing};
     ghost use Rattle.rio_session.specs.Lists.{listing_at};
     ghost use Rattle.rio_session.specs.Session.{IsReady};
+    ghost use Rattle.rio_session.specs.SessionState.{baskets_of};
 
     // What a close needs with a class list.
     pub(crate) fn need_with_list(&self) -> u64
         requires fresh { self.now.failed ≡ false }
         ensures { result ≡ close_need (kept_with self.now.name self.now.heads
-            (2 + length self.now.heads)) }
+            (2 + length self.now.heads + length (baskets_of self.now))) }
     {
-        let count = 2 + self.table.count() as u64;
+        let count = match &self.info {
+            Some(_) => self.chain.live(),
+            None => self.chain.live() + 1,
+        };
         close_length(self.name.as_slice(), self.heads_bytes, count)
     }
 

@@ -1,5 +1,5 @@
 //! A session on a made file is begun.
-ghost use Rattle.std.specs.Prelude.{◌≡◌, ℕ, List, Some, false, IfOk, OnOk};
+ghost use Rattle.std.specs.Prelude.{◌≡◌, ℕ, List, map, Some, false, IfOk, OnOk};
 ghost use Rattle.byteorder.specs.Endian.{big_bytes};
 ghost use Rattle.rio_host.specs.Host.{Any, Becomes, Elapses, IsDiskCause, IsLength, IsQuiet, IsWithin, OnlyWrites};
 ghost use Rattle.rio_host.specs.OnlyReads.{OnlyReads};
@@ -10,17 +10,24 @@ ghost use Rattle.rio_close.specs.EndWord.{SaysEnd};
 ghost use Rattle.rio_dir.specs.Unborn.{is_unborn};
 ghost use Rattle.rio_machine.specs.State.{State};
 ghost use Rattle.rio_recover.specs.Recovered.{HasRoomBehind, IsRecovered};
+ghost use Rattle.rio_recover.specs.TreeTable.{AreInOrder};
 ghost use Rattle.rio_recover.specs.Whole.{IsWhole};
 ghost use Rattle.rio_state.specs.Left.{ReadsClosedUnlessOpen, open_end};
 ghost use Rattle.rio_state.specs.Reads.{ReadsAsState};
 ghost use Rattle.rio_session.specs.Opening.{BeginsOn, IsBegun, IsNotOpened, IsOpenCause};
 ghost use Rattle.rio_session.specs.Opening.{LeavesFileOrUnclosed, SparesFile, TellsWhyNot};
 ghost use Rattle.rio_session.specs.Session.{IsReady, StandsFor};
+ghost use Rattle.rio_session.specs.SessionState.{kept_tree_of};
+ghost use Rattle.rio_tree.specs.WrittenLaws.{stated_defs};
 
 use crate::{OpenFault, Session};
 use rio_chain::put_word;
 use rio_host::{Failed, Host, HostFault};
-use rio_recover::{Recovered, clean, recover};
+use rio_leaf::BranchDefs;
+use rio_num::NoMemory;
+use rio_recover::{Recovered, TreeAt, clean, recover};
+use rio_tree::Branch;
+use rio_tree_table::{KeptTree, TreeTable};
 use std::alloc::Global;
 
 // Where the header says END.
@@ -46,12 +53,49 @@ fn mark_open<H: Host>(host: &mut H) -> Result<(), Failed>
     put_word(host, END_PLACE, OPEN_END)
 }
 
+// The branches as a line of a script declares them.
+fn stated_defs(alloc: Global, branches: &[Branch]) -> Result<BranchDefs, NoMemory>
+    ensures { IfOk result (λ defs. defs ≡ stated_defs branches.now) }
+{
+    let mut defs = BranchDefs::new(alloc);
+    for branch in branches {
+        defs.push(branch.def.copy()?)?;
+    }
+    Ok(defs)
+}
+
+// What is kept of a tree with this header: no rows are pending.
+fn kept_tree_of(alloc: Global, tree: &TreeAt) -> Result<KeptTree, NoMemory>
+    ensures { IfOk result (λ kept. kept ≡ kept_tree_of tree.now) }
+{
+    Ok(KeptTree {
+        name: tree.name.copy()?,
+        branches: stated_defs(alloc, tree.head.branches.as_slice())?,
+        saved: tree.head.entries,
+        pending: 0,
+    })
+}
+
+// What is kept of the trees with these headers.
+fn kept_trees(alloc: Global, trees: &[TreeAt]) -> Result<TreeTable, NoMemory>
+    requires { AreInOrder trees.now }
+    ensures { IfOk result (λ table. table.trees ≡ map kept_tree_of trees.now) }
+{
+    let mut table = TreeTable::new(alloc);
+    for tree in trees {
+        table.reserve_one()?;
+        table.insert(kept_tree_of(alloc, tree)?);
+    }
+    Ok(table)
+}
+
 // Begins a session on what was recovered of the file: marks the file as open, and then releases its
 // garbage. `opened` is the file's length. HostFault comes only where a call on the file failed.
 fn begin<H: Host>(
     alloc: Global,
     host: &mut H,
     mut recovered: Recovered,
+    trees: TreeTable,
     opened: u64,
     datime: u32,
 ) -> Result<Session, HostFault>
@@ -60,6 +104,7 @@ fn begin<H: Host>(
     requires fresh { recovered.chain.spent ≡ false }
     requires whole { IsWhole recovered }
     requires room { HasRoomBehind recovered }
+    requires trees { trees.trees ≡ map kept_tree_of recovered.trees }
     requires opened { IsLength (H.view host.old) opened }
     ensures any_moment { (file text : List ℕ) (m : State) → IsQuiet (H.view host.old)
         → (H.view host.old).holds ≡ Some file → (H.view host.old).said ≡ Some text
@@ -84,6 +129,7 @@ fn begin<H: Host>(
         chain,
         registry,
         table,
+        trees: headers,
         info,
         name,
         nbytes_name,
@@ -96,6 +142,8 @@ fn begin<H: Host>(
         registry,
         table,
         heads_bytes,
+        trees,
+        headers,
         info,
         name,
         nbytes_name,
@@ -137,5 +185,6 @@ pub(crate) fn open_made<H: Host>(
 {
     let opened = host.length()?;
     let recovered = recover(alloc, host)?;
-    Ok(begin(alloc, host, recovered, opened, datime)?)
+    let trees = kept_trees(alloc, recovered.trees.as_slice())?;
+    Ok(begin(alloc, host, recovered, trees, opened, datime)?)
 }

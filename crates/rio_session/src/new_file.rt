@@ -18,7 +18,9 @@ use rio_create::{Created, create};
 use rio_dir::KeyTable;
 use rio_host::Host;
 use rio_num::Name;
+use rio_recover::Trees;
 use rio_registry::Registry;
+use rio_tree_table::TreeTable;
 use std::alloc::Global;
 
 // Makes the file, which isn't made yet.
@@ -62,6 +64,8 @@ pub(crate) fn open_new<H: Host>(
         registry: Registry::new(alloc),
         table: KeyTable::new(alloc),
         heads_bytes: 0,
+        trees: TreeTable::new(alloc),
+        headers: Trees::new(alloc),
         info: None,
         name: own,
         nbytes_name,

@@ -6,7 +6,9 @@ use rio_host::Host;
 use rio_key::KeyHead;
 use rio_machine::{Command, Outcome};
 use rio_num::{Boxed, Name};
+use rio_recover::Trees;
 use rio_registry::Registry;
+use rio_tree_table::TreeTable;
 use std::alloc::Global;
 use std::marker::Model;
 
@@ -19,6 +21,10 @@ pub struct Session {
     pub(crate) table: KeyTable,
     // How many bytes are written of the heads in the table.
     pub(crate) heads_bytes: u64,
+    // The trees, as commands are judged by them and as they are listed.
+    pub(crate) trees: TreeTable,
+    // What their headers say.
+    pub(crate) headers: Trees,
     pub(crate) info: Option<KeyHead>,
     pub(crate) name: Name,
     pub(crate) nbytes_name: u32,
@@ -29,13 +35,15 @@ pub struct Session {
 }
 
 impl Model for Session {
-    ghost use Rattle.std.specs.Prelude.{◌≡◌, false};
+    ghost use Rattle.std.specs.Prelude.{◌≡◌, map, false};
     ghost use Rattle.rio_dir.specs.Table.{heads_size};
     ghost use Rattle.rio_model.specs.StateClasses.{StateClasses};
     ghost use Rattle.rio_recover.specs.Classes.{HasListCycle};
     ghost use Rattle.rio_recover.specs.Closable.{IsClosable};
+    ghost use Rattle.rio_recover.specs.Trees.{places_of};
     ghost use Rattle.rio_recover.specs.Whole.{HoldsDirectory};
     ghost use Rattle.rio_session.specs.Session.{SessionState};
+    ghost use Rattle.rio_session.specs.SessionState.{kept_tree_of};
 
     ghost Value = { SessionState };
 
@@ -43,6 +51,7 @@ impl Model for Session {
       segments = s.chain.segments;
       classes = s.registry;
       heads = s.table.heads;
+      trees = s.headers;
       info = s.info;
       name = s.name;
       nbytes_name = s.nbytes_name;
@@ -53,12 +62,14 @@ impl Model for Session {
     } };
 
     // The classes are such as commands declare, and the cycle of the class list is low enough for one more.
-    // The directory record is within the first record.
+    // Of each header a tree is kept, without pending rows. The directory record is within the first record.
     ghost invariant = { λ s. record {
       classes : StateClasses s.registry;
       listed : HasListCycle s.info s.registry;
-      kept : s.failed ≡ false → IsClosable s.chain.segments s.table.heads s.info s.name;
+      kept : s.failed ≡ false → IsClosable s.chain.segments s.table.heads s.info
+          (places_of s.headers) s.name;
       fresh : s.failed ≡ false → s.chain.spent ≡ false;
+      trees : s.trees.trees ≡ map kept_tree_of s.headers;
       bytes : s.failed ≡ false → s.heads_bytes ≡ heads_size s.table.heads;
       directory : s.failed ≡ false → HoldsDirectory s.nbytes_name s.chain.segments;
     } };

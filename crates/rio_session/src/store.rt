@@ -15,6 +15,7 @@ impl Session {
     ghost use Rattle.rio_dir.specs.Table.{with_head};
     ghost use Rattle.rio_chain.specs.Placing.{record_count};
     ghost use Rattle.rio_machine.specs.declared.command.Command.{Command as Line};
+    ghost use Rattle.rio_judge.specs.declared.work.AnyWork.{AnyWork};
     ghost use Rattle.rio_judge.specs.declared.work.Work.{Work};
     ghost use Rattle.rio_state.specs.Closing.{close_need};
     ghost use Rattle.rio_recover.specs.Closable.{is_sized, kept_with};
@@ -55,7 +56,7 @@ impl Session {
         requires fresh { self.old.failed ≡ false }
         requires ready { IsReady (H.view host.old) self.old }
         requires can { CanBeDone self.old (Work.Put object.now) }
-        ensures does { (c : Line) → IsToDo self.old c (Work.Put object.now)
+        ensures does { (c : Line) → IsToDo self.old c (AnyWork.Item (Work.Put object.now))
             → Does (H.view host.old) (H.view host.new) self.old self.new c result }
         ensures reads { (H.view host.new).reads ≡ (H.view host.old).reads }
     {

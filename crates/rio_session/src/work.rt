@@ -1,7 +1,7 @@
 //! A command is judged and done.
 use crate::{Session, SessionFault};
 use rio_host::Host;
-use rio_judge::{Judged, Work, judge};
+use rio_judge::{AnyWork, JudgedWithTrees, TreeWork, Work, judge_with_trees};
 use rio_machine::{Command, Outcome};
 
 impl Session {
@@ -11,18 +11,19 @@ impl Session {
     ghost use Rattle.rio_step.specs.Statable.{IsStatable};
     ghost use Rattle.rio_session.specs.Causes.{NeverReads};
     ghost use Rattle.rio_session.specs.Does.{Does};
-    ghost use Rattle.rio_session.specs.Doable.{CanBeDone, IsToDo, ReadsNothing};
+    ghost use Rattle.rio_session.specs.Doable.{AnyCanBeDone, CanBeDone, IsToDo, ReadsNothing};
     ghost use Rattle.rio_session.specs.Sound.{IsSoundState};
     ghost use Rattle.rio_session.specs.Session.{IsReady};
 
-    // Does the work of a command.
-    fn work<H: Host>(&mut self, host: &mut H, work: Work) -> Result<Outcome, SessionFault>
+    // Does the work of a command with an object or a class.
+    fn item_work<H: Host>(&mut self, host: &mut H, work: Work) -> Result<Outcome, SessionFault>
         requires fresh { self.old.failed ≡ false }
         requires ready { IsReady (H.view host.old) self.old }
         requires can { CanBeDone self.old work }
-        ensures does { (c : Line) → IsToDo self.old c work
+        ensures does { (c : Line) → IsToDo self.old c (AnyWork.Item work)
             → Does (H.view host.old) (H.view host.new) self.old self.new c result }
-        ensures reads { ReadsNothing work → (H.view host.new).reads ≡ (H.view host.old).reads }
+        ensures reads { ReadsNothing (AnyWork.Item work)
+            → (H.view host.new).reads ≡ (H.view host.old).reads }
     {
         match work {
             Work::Class(new) => self.class(host, new),
@@ -30,6 +31,22 @@ impl Session {
             Work::Delete(head) => self.delete(host, &head),
             Work::Get { head, version } => self.get(host, &head, version),
             Work::Ls => self.list(host),
+        }
+    }
+
+    // Does the work of a command. Of trees only a delete is done as of now.
+    fn work<H: Host>(&mut self, host: &mut H, work: AnyWork) -> Result<Outcome, SessionFault>
+        requires fresh { self.old.failed ≡ false }
+        requires ready { IsReady (H.view host.old) self.old }
+        requires can { AnyCanBeDone self.old work }
+        ensures does { (c : Line) → IsToDo self.old c work
+            → Does (H.view host.old) (H.view host.new) self.old self.new c result }
+        ensures reads { ReadsNothing work → (H.view host.new).reads ≡ (H.view host.old).reads }
+    {
+        match work {
+            AnyWork::Item(work) => self.item_work(host, work),
+            AnyWork::Tree(TreeWork::Delete(head)) => self.delete(host, &head),
+            AnyWork::Tree(_) => unreachable!(),
         }
     }
 
@@ -50,9 +67,15 @@ impl Session {
         ensures sound { IsSoundState self.old }
         ensures soon { self.old.datime < 2 ^ 32 }
     {
-        match judge(self.alloc, &self.registry, &self.table, command)? {
-            Judged::Refused(refusal) => self.refuse(host, refusal, 0),
-            Judged::Accepted(work) => self.work(host, work),
+        match judge_with_trees(
+            self.alloc,
+            &self.registry,
+            &self.table,
+            &self.trees,
+            command,
+        )? {
+            JudgedWithTrees::Refused(refusal) => self.refuse(host, refusal, 0),
+            JudgedWithTrees::Accepted(work) => self.work(host, work),
         }
     }
 }

@@ -9,7 +9,7 @@ use Rattle.rio_buffer.specs.Frames.{header}
 use Rattle.rio_format.specs.Objects.{object_of, formed, headed, body, unread, whole_object, closed, parts, base_part, member_parts, member_part, kind_value, text_value, bare_layout}
 use Rattle.rio_chain.specs.{Segments.{Link, RecordAt}, declared.segment.Segment.TheVariants.{Record, Gap}}
 use Rattle.rio_machine.specs.State.{empty_state}
-use Rattle.rio_state.specs.{Closing.{close_need, held_of, is_full, kept_in, lay_all}, Contents.{object_in}, KeyedRecords.{keyed_records}}
+use Rattle.rio_state.specs.{Closing.{close_need, held_of, held_with, is_full, kept_in, kept_with, lay_all}, TreeLengths.{put_among}, Contents.{object_in}, KeyedRecords.{keyed_records}}
 use Rattle.rio_state.specs.{Reads.{AreRecordsOf}, Reasons.{reason_at, room_reasons, state_reasons}}
 use Rattle.rio_state.proofs.EmptyState.{none_counts}
 
@@ -66,16 +66,16 @@ unfolding empty_links first_record list_record free_record key_bytes short_text 
 no_reasons = refl
 
 small_need : close_need (kept_in empty_links) ≡ 116
-unfolding empty_links first_record list_record free_record key_bytes short_text key_layout key_fields text_at close_need kept_in
+unfolding empty_links first_record list_record free_record key_bytes short_text key_layout key_fields text_at close_need kept_with put_among
 small_need = refl
 
 has_room : room_reasons empty_links ≡ []
-unfolding empty_links first_record list_record free_record key_bytes short_text key_layout key_fields text_at close_need kept_in room_reasons
+unfolding empty_links first_record list_record free_record key_bytes short_text key_layout key_fields text_at close_need kept_with put_among room_reasons
 has_room = refl
 
 -- END is 304; the lengths are 44 and 70, each with three bytes more
 some_held : held_of empty_links ≡ 424
-unfolding empty_links first_record list_record free_record key_bytes short_text key_layout key_fields text_at kept_in held_of
+unfolding empty_links first_record list_record free_record key_bytes short_text key_layout key_fields text_at kept_with held_with put_among
 some_held = refl
 
 -- ---- reasons

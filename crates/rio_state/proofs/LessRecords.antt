@@ -19,11 +19,12 @@ pub record OwnRecord (place : ℕ) (bytes : List ℕ) : Type 0 where
   pub seek : r.head.seek ≡ place
   pub bytes_are : r.bytes ≡ bytes
   pub spelled : IsSpelledIn (SpellsKey r.head) bytes
+  pub parts : r.head.keylen + r.head.objlen ≡ length bytes
 
 pub own_record : (file : List ℕ) (p q : ℕ) (bytes : List ℕ) → q ≡ p → HoldsRecord file p bytes → OwnRecord q bytes
 own_record file p q bytes at held =
     let whole : IsRecord q bytes = subst (λ (k : ℕ). IsRecord k bytes) (sym at) held.whole in
-    record { r = keyed_bytes whole.head bytes; keyed = keyed_link q bytes whole.head (own_key q bytes whole); seek = whole.seek; bytes_are = refl; spelled = whole.key }
+    record { r = keyed_bytes whole.head bytes; keyed = keyed_link q bytes whole.head (own_key q bytes whole); seek = whole.seek; bytes_are = refl; spelled = whole.key; parts = whole.parts }
 
 pub with_own : (q : ℕ) (bytes : List ℕ) (o : OwnRecord q bytes) (links : List Link) → keyed_records (RecordAt q bytes ∷ links) ≡ o.r ∷ keyed_records links
 with_own q bytes o links = ap (λ (x : Option KeyedRecord). cons_option x (keyed_records links)) o.keyed
@@ -98,11 +99,11 @@ first_is_kept file links r has other = by links has (record_less file links r ha
 -- ---- the records of objects and trees
 
 -- the first record of a file is one that the file itself needs
+pub first_class : (file : List ℕ) (place : ℕ) (bytes : List ℕ) (o : OwnRecord place bytes) → IsFirst file bytes → o.r.head.class ≡ codes "TFile"
+first_class file place bytes o f = ap (λ (h : KeyHead). h.class) (sym (spelled_one f.head o.r.head bytes f.key o.spelled)) ∙ f.class
+
 pub first_internal : (file : List ℕ) (place : ℕ) (bytes : List ℕ) (o : OwnRecord place bytes) → IsFirst file bytes → is_internal o.r.head ≡ true
-first_internal file place bytes o f =
-    let same = spelled_one f.head o.r.head bytes f.key o.spelled in
-    let class : o.r.head.class ≡ codes "TFile" = ap (λ (h : KeyHead). h.class) (sym same) ∙ f.class in
-    ap (λ (c : List ℕ). bytes_eq c (codes "TFile") || bytes_eq c (codes "TBasket")) class
+first_internal file place bytes o f = ap (λ (c : List ℕ). bytes_eq c (codes "TFile") || bytes_eq c (codes "TBasket")) (first_class file place bytes o f)
 
 -- so those of objects and trees stand behind it
 pub top_is_later : (file : List ℕ) (links : List Link) (r : KeyedRecord) → HasRecord file links r → is_top_key r.head ≡ true → r.head.seek ≢ first_place

@@ -6,10 +6,10 @@ use Rattle.rio_num.proofs.BytesEq.{bytes_eq-sym}
 use Rattle.rio_num.specs.Word.{is_item_text}
 use Rattle.rio_head.specs.declared.reason.Reason.{Reason, TheVariants.{OtherDirectory, BadName, BadKey, BadObject, BadTree, DoubleKey, MixedName}}
 use Rattle.rio_machine.specs.State.{State}
-use Rattle.rio_state.specs.Contents.{object_in, state_classes, tree_of}
-use Rattle.rio_state.specs.KeyedRecords.{KeyedRecord, has_item, info_key, is_elsewhere, is_mixed_name, is_tree_key, is_tree_record, item_of_key, object_records, top_keys, tree_records}
+use Rattle.rio_state.specs.{Contents.{file_classes, object_in}, Trees.{tree_of}}
+use Rattle.rio_state.specs.KeyedRecords.{KeyedRecord, has_item, info_key, is_elsewhere, is_mixed_name, is_tree_key, is_tree_record, item_of_key, object_records, top_keys}
 use Rattle.rio_state.specs.Reads.{AreRecordsOf, are_distinct, is_named_key}
-use Rattle.rio_state.specs.Reasons.{Beside, ReasonAt, directory_reasons, is_bad_object, is_bad_tree, key_reasons, keys_reasons, reason_if, state_reasons}
+use Rattle.rio_state.specs.Reasons.{Beside, ReasonAt, directory_reasons, is_bad_object, is_bad_tree, key_reasons, keys_reasons, reason_if, state_reasons, beside_trees}
 
 -- ---- truth values
 
@@ -78,10 +78,10 @@ abbrev pub IsNamed : KeyedRecord → Bool
 IsNamed r = is_named_key r.head
 
 abbrev pub is_object_read : Beside → KeyedRecord → Bool
-is_object_read beside r = is_some (object_in beside.classes r)
+is_object_read beside r = is_some (object_in beside.classes.declared r)
 
 abbrev pub is_tree_read : Beside → KeyedRecord → Bool
-is_tree_read beside r = is_some (tree_of beside.classes beside.records (tree_records beside.tops) r)
+is_tree_read beside r = is_some (tree_of (beside_trees beside) r)
 
 abbrev pub is_apart : Beside → KeyedRecord → Bool
 is_apart beside r = not (is_mixed_name beside.tops r.head.name)
@@ -120,7 +120,7 @@ no_keys beside before (r ∷ rs) named apart objects trees distinct new =
     (no_keys beside (before ++ r ∷ []) rs n.1 a.1 o.1 t.1 d.1 next)
 
 abbrev pub beside_of : List KeyedRecord → Beside
-beside_of records = record { classes = state_classes (info_key records); records = records; tops = top_keys records }
+beside_of records = record { classes = file_classes (info_key records); records = records; tops = top_keys records }
 
 -- records that stand for a state give no reason
 pub no_state_reason : (records : List KeyedRecord) (m : State) → AreRecordsOf records m → state_reasons true records ≡ []

@@ -2,7 +2,7 @@
 use Rattle.std.proofs.Common.{◌≡◌, ℕ, ◌∙◌, List, [], ◌∷◌, ◌++◌, Bool, true, false, cond, not, ◌&&◌, Option, Some, refl, sym, ap, subst}
 use Rattle.std.proofs.{lemmas.Bool.{and_from, and_left, and_parts, and_right, not-true, or_parts}, lemmas.List.Elements.{filter_agree}}
 use Rattle.std.proofs.{lemmas.Map.Views.{tells_apart}, lemmas.Slice.Eq.{bytes_eq-Decides}}
-use Rattle.std.specs.{Prelude.{is_some, nat_lt, option_and_then}, FinMap.{get, get-insert, insert}, List.{filter, find, list_all, list_any}, Str.{bytes_eq}}
+use Rattle.std.specs.{Prelude.{is_some, nat_lt, option_and_then}, FinMap.{get, get-insert, insert}, List.{filter, list_all, list_any}, Str.{bytes_eq}}
 use Rattle.rio_types.specs.declared.class.ClassDef.{ClassDef}
 use Rattle.rio_value.specs.declared.value.Value.{Value}
 use Rattle.rio_machine.proofs.OrderLaws.{items_tie, items_total}
@@ -10,8 +10,8 @@ use Rattle.rio_machine.specs.State.{NameAndCycle, State}
 use Rattle.rio_state.proofs.{Collected.{item_same}, NoReason.{item_turned}}
 use Rattle.rio_state.proofs.{Insertion.{all_more, any_in, any_more, filter_more, filter_same, find_more, find_same}, Members.{filter_in, none_at, none_from}}
 use Rattle.rio_state.proofs.Stays.{trees_read, trees_under}
-use Rattle.rio_state.specs.Contents.{object_in, state_classes, tree_of}
-use Rattle.rio_state.specs.KeyedRecords.{KeyedRecord, has_item, is_mixed_name, is_outdated, is_tree_key, is_tree_record, item_of_key, object_records, tree_records}
+use Rattle.rio_state.specs.{Contents.{file_classes, object_in, state_classes}, Trees.{TreesBeside, tree_of, tree_under}}
+use Rattle.rio_state.specs.KeyedRecords.{KeyedRecord, begins_at, has_item, is_mixed_name, is_outdated, is_tree_key, is_tree_record, item_of_key, object_records, tree_records}
 use Rattle.rio_state.specs.{Reads.{StandsForState, are_distinct, is_named_key, object_under}, OneMore.{HasOneMoreIn}}
 
 -- The record holds an object, under a name and cycle that none of these has; no tree among them has the name.
@@ -33,7 +33,7 @@ distinct_in r (s ∷ front) back d new =
     let other : has_item (item_of_key s.head) r ≡ false = item_turned s r ∙ none.0 in
     and_from _ _ (ap not (any_in (has_item (item_of_key s.head)) r front back other) ∙ parts.0) (distinct_in r front back parts.1 none.1)
 
-distinct_more : (r : KeyedRecord) (old new : List KeyedRecord) → HasOneMoreIn old new r → are_distinct old ≡ true → list_any (has_item (item_of_key r.head)) old ≡ false → are_distinct new ≡ true
+pub distinct_more : (r : KeyedRecord) (old new : List KeyedRecord) → HasOneMoreIn old new r → are_distinct old ≡ true → list_any (has_item (item_of_key r.head)) old ≡ false → are_distinct new ≡ true
 distinct_more r old new h d none =
     ap are_distinct h.after
     ∙ distinct_in r h.front h.back (ap are_distinct (sym h.before) ∙ d) (ap (list_any (has_item (item_of_key r.head))) (sym h.before) ∙ none)
@@ -120,14 +120,15 @@ objects_hold classes m tops new r v h o all item =
 -- ---- the state
 
 -- with the record of a new object the records stand for the state with the object
-pub object_stands : (old records : List KeyedRecord) (r : KeyedRecord) (info : Option KeyedRecord) (tops new : List KeyedRecord) (m : State) (v : Value) → HasOneMoreIn old records r → HasOneMoreIn tops new r
+pub object_stands : (old records : List KeyedRecord) (r : KeyedRecord) (info : Option KeyedRecord) (tops new : List KeyedRecord) (m : State) (v : Value) → HasOneMoreIn old records r → begins_at old r.head.seek ≡ false → HasOneMoreIn tops new r
     → IsNewObject (state_classes info) tops r v → StandsForState old info tops m → StandsForState records info new (record m { objects = insert m.objects (item_of_key r.head) v })
-object_stands old records r info tops new m v among h o s =
+object_stands old records r info tops new m v among free h o s =
     let classes = state_classes info in
     let same = trees_same tops new r h o.object in
     let headers = tree_records tops in
-    let read = trees_read classes old records r among headers headers s.tree_readable in
-    let under = trees_under classes old records r among headers in
+    let beside_headers : List KeyedRecord → TreesBeside = λ ts. record { classes = file_classes info; records = records; headers = ts } in
+    let read = trees_read (file_classes info) headers old records r among free headers s.tree_readable in
+    let under = trees_under (file_classes info) headers old records r among free in
     record {
       listed = s.listed;
       classes = s.classes;
@@ -136,7 +137,7 @@ object_stands old records r info tops new m v among h o s =
       apart = names_apart tops new r h o.object o.no_tree s.apart;
       readable = all_more (λ t. is_some (object_in classes t)) r (object_records tops) (object_records new) (objects_more tops new r h o.object) (ap is_some o.read) s.readable;
       objects = objects_hold classes m tops new r v h o s.objects;
-      tree_readable = subst (λ (ts : List KeyedRecord). list_all (λ t. is_some (tree_of classes records ts t)) ts ≡ true) (sym same) read;
+      tree_readable = subst (λ (ts : List KeyedRecord). list_all (λ t. is_some (tree_of (beside_headers ts) t)) ts ≡ true) (sym same) read;
       trees = λ name. s.trees name ∙ under (λ t. bytes_eq t.head.name name) headers s.tree_readable
-          ∙ ap (λ (ts : List KeyedRecord). option_and_then (tree_of classes records ts) (find (λ t. bytes_eq t.head.name name) ts)) (sym same);
+          ∙ ap (λ (ts : List KeyedRecord). tree_under (beside_headers ts) name) (sym same);
     }

@@ -9,7 +9,7 @@ use Rattle.rio_dir.specs.Unborn.{is_unborn}
 use Rattle.rio_machine.proofs.OrderLaws.{items_total, names_total}
 use Rattle.rio_machine.specs.State.{State, empty_state, item_order}
 use Rattle.rio_state.proofs.{Collected.{held, item_same, name_same, pairs}, NoReason.{beside_of}, Unreasoned.{directory_kept, if_none, keys_kept, nil_two}}
-use Rattle.rio_state.specs.Contents.{HasStateClasses, object_in, state_classes, tree_of}
+use Rattle.rio_state.specs.{Contents.{HasStateClasses, object_in, state_classes}, Trees.{tree_of, trees_beside}}
 use Rattle.rio_state.specs.KeyedRecords.{KeyedRecord, has_item, info_key, is_elsewhere, is_mixed_name, item_of_key, keyed_records, object_records, top_keys, tree_records}
 use Rattle.rio_state.specs.{Laws.{IsOfRoom, NoReasonIsRead}, Reads.{AreRecordsOf, ReadsAsMade, StandsForState}}
 use Rattle.rio_state.specs.Reasons.{Beside, IsReasonOfChain, IsReasonOfMade, IsReasonOfSmall, ReasonAt, directory_reasons, info_reasons, is_bad_object, is_bad_tree, key_reasons, keys_reasons, reason_at, reason_if, room_reasons, state_reasons}
@@ -95,7 +95,7 @@ state_of records =
     let classes = state_classes (info_key records) in
     let tops = top_keys records in
     let object_pairs = pairs items_total (λ r. item_of_key r.head) has_item item_same (object_in classes) (object_records tops) in
-    let tree_pairs = pairs names_total (λ r. r.head.name) (λ name r. bytes_eq r.head.name name) name_same (tree_of classes records (tree_records tops)) (tree_records tops) in
+    let tree_pairs = pairs names_total (λ r. r.head.name) (λ name r. bytes_eq r.head.name name) name_same (tree_of (trees_beside (info_key records) records tops)) (tree_records tops) in
     record { classes = classes; objects = from_entries {R = item_order} object_pairs; trees = from_entries {R = name_order} tree_pairs }
 
 listed_is_true : (listed : Bool) (P : Type 0) → MatchBool listed P (¬ P) → listed ≡ true → P
@@ -124,7 +124,7 @@ records_stand listed records is e =
       readable = kept.objects;
       objects = held items_total (λ r. item_of_key r.head) has_item item_same (object_in classes) (object_records tops) kept.objects;
       tree_readable = kept.trees;
-      trees = held names_total (λ r. r.head.name) (λ name r. bytes_eq r.head.name name) name_same (tree_of classes records headers) headers kept.trees;
+      trees = held names_total (λ r. r.head.name) (λ name r. bytes_eq r.head.name name) name_same (tree_of (trees_beside (info_key records) records tops)) headers kept.trees;
     } in
     record { here = directory_kept records x.0; stand = stand }
 

@@ -1,18 +1,17 @@
 -- A record that the file itself needs changes nothing of what its records stand for.
-use Rattle.std.proofs.Common.{◌≡◌, ◌↔◌, ℕ, ◌∙◌, List, [], ◌∷◌, ◌++◌, codes, Bool, true, false, not, ◌||◌, ◌==◌, Option, Some, refl, sym, ap, subst}
-use Rattle.std.proofs.lemmas.Bool.{and_from, and_left, and_parts, and_right}
+use Rattle.std.proofs.Common.{◌≡◌, ◌↔◌, ℕ, ◌∙◌, List, [], ◌∷◌, ◌++◌, codes, Bool, true, false, not, ◌||◌, ◌==◌, Option, refl, sym, ap, subst}
+use Rattle.std.proofs.lemmas.Bool.{and_left, and_right}
 use Rattle.std.specs.{Prelude.{if◌then◌else◌, is_some, option_and_then}, List.{Contains, find, list_all}, Str.{bytes_eq}}
-use Rattle.rio_types.specs.declared.class.ClassDef.{ClassDef}
 use Rattle.rio_key.specs.declared.head.KeyHead.{KeyHead}
 use Rattle.rio_chain.proofs.Keys.{spelled_one}
 use Rattle.rio_chain.specs.{Segments.{IsFirst, IsRecord, RecordAt}, Changes.{with_record}}
 use Rattle.rio_machine.specs.State.{State, Tree, empty_state}
-use Rattle.rio_state.specs.{Closing.{item_heads, kept_count, kept_in, name_in, KeptRecords}, Contents.{no_tree_is_read, tree_of}, DirectoryKeys.{AreKeysOf}}
-use Rattle.rio_state.specs.KeyedRecords.{KeyedRecord, first_place, has_info_name, info_key, is_elsewhere, is_in_directory, is_info_key, is_internal, is_top_key, keyed_records, later_info, top_keys, tree_records}
+use Rattle.rio_state.specs.{Closing.{item_heads, kept_of, kept_with, name_in}, TreeLengths.{put_among}, Contents.{FileClasses, file_classes}, Trees.{tree_of}, DirectoryKeys.{AreKeysOf}}
+use Rattle.rio_state.specs.KeyedRecords.{KeyedRecord, begins_at, first_place, has_info_name, info_key, is_elsewhere, is_in_directory, is_info_key, is_internal, is_top_key, keyed_records, later_info, top_keys, tree_records}
 use Rattle.rio_state.specs.Reads.{AreRecordsOf, StandsForState}
 use Rattle.rio_state.specs.OneMore.{EmptyIsRead, InfoStays, InternalStays, KeysStay, NeedStays, keyed_bytes, HasOneMoreIn}
 use Rattle.rio_state.proofs.{Insertion.{all_more, filter_same}, MoreRecords.{first_stays, keyed_link, own_key, record_more, records_more}}
-use Rattle.rio_state.proofs.EmptyState.{none_counts}
+use Rattle.rio_state.proofs.{EmptyState.{none_counts}, Members.{In, all_at}, TreesSame.{all_agree, found_agree, tree_stays}}
 
 -- ---- keys that aren't in the directory
 
@@ -46,43 +45,29 @@ tops_same old new r h e = filter_same (λ s. is_top_key s.head) r old new h e
 
 -- ---- trees
 
--- a tree that is read is read as before
-tree_stays : (classes : List ClassDef) (old new : List KeyedRecord) (r : KeyedRecord) → HasOneMoreIn old new r → (headers : List KeyedRecord) (s : KeyedRecord)
-    → is_some (tree_of classes old headers s) ≡ true → tree_of classes new headers s ≡ tree_of classes old headers s
-tree_stays classes old new r h headers s e = no_tree_is_read classes new headers s ∙ sym (no_tree_is_read classes old headers s)
-
-module _ (classes : List ClassDef) (old new : List KeyedRecord) (r : KeyedRecord) (h : HasOneMoreIn old new r) (headers : List KeyedRecord) where
+module _ (classes : FileClasses) (headers old new : List KeyedRecord) (r : KeyedRecord) (h : HasOneMoreIn old new r) (free : begins_at old r.head.seek ≡ false) where
   abbrev read_before : KeyedRecord → Option Tree
-  read_before = tree_of classes old headers
+  read_before = tree_of (record { classes = classes; records = old; headers = headers })
 
   abbrev read_after : KeyedRecord → Option Tree
-  read_after = tree_of classes new headers
+  read_after = tree_of (record { classes = classes; records = new; headers = headers })
+
+  trees_stay : (rs : List KeyedRecord) → list_all (λ s. is_some (read_before s)) rs ≡ true → (s : KeyedRecord) → In s rs → read_before s ≡ read_after s
+  trees_stay rs all s i = tree_stays classes headers old new r h s free (all_at (λ t. is_some (read_before t)) s rs all i)
 
   pub trees_read : (rs : List KeyedRecord) → list_all (λ s. is_some (read_before s)) rs ≡ true → list_all (λ s. is_some (read_after s)) rs ≡ true
-  trees_read [] all = refl
-  trees_read (s ∷ rs) all =
-      let parts = and_parts (is_some (read_before s)) (list_all (λ s. is_some (read_before s)) rs) all in
-      and_from _ _ (ap is_some (tree_stays classes old new r h headers s parts.0) ∙ parts.0) (trees_read rs parts.1)
+  trees_read rs all = sym (all_agree (λ s. is_some (read_before s)) (λ s. is_some (read_after s)) rs (λ s i. ap is_some (trees_stay rs all s i))) ∙ all
 
   pub trees_under : (test : KeyedRecord → Bool) (rs : List KeyedRecord) → list_all (λ s. is_some (read_before s)) rs ≡ true
       → option_and_then read_before (find test rs) ≡ option_and_then read_after (find test rs)
-  trees_under test [] all = refl
-  trees_under test (s ∷ rs) all = by (test s) (trees_under test rs parts.1)
-    where
-      parts : (is_some (read_before s) ≡ true) × (list_all (λ s. is_some (read_before s)) rs ≡ true)
-      parts = and_parts (is_some (read_before s)) (list_all (λ s. is_some (read_before s)) rs) all
-
-      by : (b : Bool) → option_and_then read_before (find test rs) ≡ option_and_then read_after (find test rs)
-          → option_and_then read_before (if b then Some s else find test rs) ≡ option_and_then read_after (if b then Some s else find test rs)
-      by true rest = sym (tree_stays classes old new r h headers s parts.0)
-      by false rest = rest
+  trees_under test rs all = found_agree read_before read_after test rs (trees_stay rs all)
 
 -- ---- one record more
 
 -- the keys stand for the same among the records
-stands_among : (old new : List KeyedRecord) (r : KeyedRecord) (info : Option KeyedRecord) (tops : List KeyedRecord) (m : State) → HasOneMoreIn old new r
+stands_among : (old new : List KeyedRecord) (r : KeyedRecord) (info : Option KeyedRecord) (tops : List KeyedRecord) (m : State) → HasOneMoreIn old new r → begins_at old r.head.seek ≡ false
     → StandsForState old info tops m → StandsForState new info tops m
-stands_among old new r info tops m h s = record {
+stands_among old new r info tops m h free s = record {
   listed = s.listed;
   classes = s.classes;
   named = s.named;
@@ -90,15 +75,15 @@ stands_among old new r info tops m h s = record {
   apart = s.apart;
   readable = s.readable;
   objects = s.objects;
-  tree_readable = trees_read _ old new r h (tree_records tops) (tree_records tops) s.tree_readable;
-  trees = λ name. s.trees name ∙ trees_under _ old new r h (tree_records tops) _ (tree_records tops) s.tree_readable;
+  tree_readable = trees_read (file_classes info) (tree_records tops) old new r h free (tree_records tops) s.tree_readable;
+  trees = λ name. s.trees name ∙ trees_under (file_classes info) (tree_records tops) old new r h free _ (tree_records tops) s.tree_readable;
 }
 
 pub internal_stays : InternalStays
-internal_stays old new r m h e is =
+internal_stays old new r m h e free is =
     let tops = tops_same old new r h (not_top r.head e) in
     let info = info_same old new r h (not_info r.head e) in
-    let stand = stands_among old new r (info_key old) (top_keys old) m h is.stand in
+    let stand = stands_among old new r (info_key old) (top_keys old) m h free is.stand in
     let with_tops = subst (λ (ts : List KeyedRecord). StandsForState new (info_key old) ts m) (sym tops) stand in
     record {
       here = all_more (λ s. not (is_elsewhere s.head)) r old new h (ap not (not_elsewhere r.head e)) is.here;
@@ -115,12 +100,9 @@ keys_stay old new r heads h e are =
 
 -- ---- what a file keeps
 
-abbrev kept_of : List ℕ → Option KeyedRecord → List KeyedRecord → KeptRecords
-kept_of name info tops = let heads = item_heads tops in record { name = name; heads = heads; count = kept_count info heads }
-
 pub need_stays : NeedStays
-unfolding kept_in
-need_stays file links place bytes head chain read e =
+unfolding kept_with
+need_stays pending file links place bytes head chain read e =
     let more = record_more links place bytes head read in
     let new = keyed_records (with_record place bytes links) in
     let old = keyed_records links in
@@ -128,7 +110,7 @@ need_stays file links place bytes head chain read e =
     let name = first_stays file links place bytes chain in
     let info = info_same old new x more (not_info head e) in
     let tops = tops_same old new x more (not_top head e) in
-    λ i. kept_of (name i) (info i) (tops i)
+    λ i. kept_of pending (name i) (info i) (item_heads (tops i)) (tree_records (tops i))
 
 -- ---- a file with its first record alone
 
@@ -146,7 +128,7 @@ first_internal file bytes place r f =
     ap (λ (c : List ℕ). bytes_eq c (codes "TFile") || bytes_eq c (codes "TBasket")) class
 
 pub empty_is_read : EmptyIsRead
-unfolding kept_in
+unfolding kept_with put_among
 empty_is_read file place bytes chain =
     let at = chain.links_are.0.0 in
     let held = chain.links_are.0.1 in
@@ -159,7 +141,7 @@ empty_is_read file place bytes chain =
     let info = info_same [] records r more (not_info r.head e) in
     let tops = tops_same [] records r more (not_top r.head e) in
     record {
-      records = internal_stays [] records r empty_state more e nothing_stands;
+      records = internal_stays [] records r empty_state more e refl nothing_stands;
       keys = keys_stay [] records r [] more e nothing_named;
-      kept = λ i. kept_of (name_in records) (info i) (tops i);
+      kept = λ pending i. kept_of pending (name_in records) (info i) (item_heads (tops i)) (tree_records (tops i));
     }

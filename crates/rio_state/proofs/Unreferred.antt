@@ -6,13 +6,13 @@ use Rattle.std.specs.{Prelude.{if◌then◌else◌, is_some, nat_lt, option_and_
 use Rattle.rio_types.specs.declared.class.ClassDef.{ClassDef}
 use Rattle.rio_key.specs.declared.head.KeyHead.{KeyHead}
 use Rattle.rio_chain.specs.Segments.{Link}
-use Rattle.rio_machine.specs.State.{State}
-use Rattle.rio_state.specs.{Closing.{KeptRecords, item_heads, kept_count, kept_in, name_in}, Contents.{no_tree_is_read, object_in, state_classes, tree_of}, DirectoryKeys.{AreKeysOf}}
+use Rattle.rio_machine.specs.State.{State, Tree}
+use Rattle.rio_state.specs.{Closing.{item_heads, kept_of, kept_with, name_in}, TreeLengths.{PendingRows}, Contents.{file_classes, object_in, state_classes}, DirectoryKeys.{AreKeysOf}, Trees.{TreesBeside, is_named_place, tree_of, tree_under}}
 use Rattle.rio_state.specs.KeyedRecords.{KeyedRecord, first_place, has_item, info_key, is_elsewhere, is_info_key, is_mixed_name, is_outdated, is_top_key, is_tree_key, is_tree_record, keyed_records, later_info, object_records, top_keys, tree_records}
 use Rattle.rio_state.specs.{OneLess.{GarbageGoes, HasRecord, IsSameWithout, OthersAreReferred, links_without}, OneMore.{HasOneMoreIn}, Reads.{AreRecordsOf, StandsForState, are_distinct, info_place, is_named_key}}
-use Rattle.rio_state.specs.Referred.{is_item_record, is_referred}
+use Rattle.rio_state.specs.Referred.{is_item_record, is_named_basket, is_referred}
 use Rattle.rio_state.proofs.{Insertion.{any_more, filter_more, filter_same}, KeysFollow.{in_before, in_new}, LessRecords.{first_is_kept, record_less}, Members.{In, any_from, passing}}
-use Rattle.rio_state.proofs.Removal.{all_less, all_weaker, any_kept, distinct_less}
+use Rattle.rio_state.proofs.{Removal.{all_less, all_weaker, any_kept, distinct_less}, TreesSame.{all_agree, found_agree, none_of, tree_kept}}
 
 -- ---- the class list that counts
 
@@ -75,10 +75,6 @@ info_kept old new r h other = by (info_less old new r h)
         absurd cc
 
 -- ---- trees
-
--- a tree is the same, whatever classes and other records there are
-pub tree_kept : (classes others : List ClassDef) (old new headers : List KeyedRecord) (s : KeyedRecord) → tree_of classes old headers s ≡ tree_of others new headers s
-tree_kept classes others old new headers s = no_tree_is_read classes old headers s ∙ sym (no_tree_is_read others new headers s)
 
 -- of keys of objects and trees some are left, with all objects, and all trees' keys of greatest cycle
 pub record IsPart (tops left : List KeyedRecord) : Type 0 where
@@ -173,10 +169,23 @@ module _ (tops left : List KeyedRecord) (r : KeyedRecord) (h : HasOneMoreIn left
 
 -- ---- what stands without it
 
--- the keys that are left stand for the same
-module _ (old new tops left : List KeyedRecord) (info : Option KeyedRecord) (part : IsPart tops left) where
+-- the keys that are left stand for the same, without a record that no header names
+module _ (old new tops left : List KeyedRecord) (r : KeyedRecord) (h : HasOneMoreIn new old r) (info : Option KeyedRecord) (part : IsPart tops left)
+    (unnamed : is_named_place (file_classes info) (tree_records tops) r.head.seek ≡ false) where
   abbrev classes : List ClassDef
   classes = state_classes info
+
+  abbrev read_before : KeyedRecord → Option Tree
+  read_before = tree_of (record { classes = file_classes info; records = old; headers = tree_records tops })
+
+  abbrev read_after : KeyedRecord → Option Tree
+  read_after = tree_of (record { classes = file_classes info; records = new; headers = tree_records tops })
+
+  trees_kept : (s : KeyedRecord) → In s (tree_records tops) → read_after s ≡ read_before s
+  trees_kept s i = tree_kept (file_classes info) (tree_records tops) new old r h s (none_of (file_classes info) (tree_records tops) r.head.seek unnamed s i)
+
+  abbrev beside_headers : List KeyedRecord → TreesBeside
+  beside_headers headers = record { classes = file_classes info; records = new; headers = headers }
 
   stands_without : (m : State) → StandsForState old info tops m → StandsForState new info left m
   stands_without m s = record {
@@ -188,12 +197,12 @@ module _ (old new tops left : List KeyedRecord) (info : Option KeyedRecord) (par
         (part.all (λ t. not (is_mixed_name tops t.head.name)) s.apart);
     readable = ap (list_all (λ t. is_some (object_in classes t))) part.objects ∙ s.readable;
     objects = λ item. s.objects item ∙ ap (λ (rs : List KeyedRecord). option_and_then (object_in classes) (find (has_item item) rs)) (sym part.objects);
-    tree_readable = ap (λ (ts : List KeyedRecord). list_all (λ t. is_some (tree_of classes new ts t)) ts) part.trees
-        ∙ (λ i. list_all (λ t. is_some (tree_kept classes classes new old (tree_records tops) t i)) (tree_records tops))
+    tree_readable = ap (λ (ts : List KeyedRecord). list_all (λ t. is_some (tree_of (beside_headers ts) t)) ts) part.trees
+        ∙ all_agree (λ t. is_some (read_after t)) (λ t. is_some (read_before t)) (tree_records tops) (λ t i. ap is_some (trees_kept t i))
         ∙ s.tree_readable;
     trees = λ name. s.trees name
-        ∙ (λ i. option_and_then (λ t. tree_kept classes classes old new (tree_records tops) t i) (find (λ t. bytes_eq t.head.name name) (tree_records tops)))
-        ∙ ap (λ (ts : List KeyedRecord). option_and_then (tree_of classes new ts) (find (λ t. bytes_eq t.head.name name) ts)) (sym part.trees);
+        ∙ sym (found_agree read_after read_before (λ t. bytes_eq t.head.name name) (tree_records tops) trees_kept)
+        ∙ ap (λ (ts : List KeyedRecord). tree_under (beside_headers ts) name) (sym part.trees);
   }
 
 pub items_same : (tops left : List KeyedRecord) → IsPart tops left → item_heads left ≡ item_heads tops
@@ -221,15 +230,14 @@ pub record IsGarbage (records : List KeyedRecord) (r : KeyedRecord) : Type 0 whe
   pub first : (r.head.seek == first_place) ≡ false
   pub info : (r.head.seek == info_place (info_key records)) ≡ false
   pub item : is_item_record (top_keys records) r ≡ false
+  pub basket : is_named_basket records r ≡ false
 
 garbage : (records : List KeyedRecord) (r : KeyedRecord) → is_referred records r ≡ false → IsGarbage records r
 garbage records r e =
-    let parts = or_parts ((r.head.seek == first_place) || (r.head.seek == info_place (info_key records))) (is_item_record (top_keys records) r) e in
+    let all = or_parts ((r.head.seek == first_place) || (r.head.seek == info_place (info_key records)) || is_item_record (top_keys records) r) (is_named_basket records r) e in
+    let parts = or_parts ((r.head.seek == first_place) || (r.head.seek == info_place (info_key records))) (is_item_record (top_keys records) r) all.0 in
     let front = or_parts (r.head.seek == first_place) (r.head.seek == info_place (info_key records)) parts.0 in
-    record { first = front.0; info = front.1; item = parts.1 }
-
-abbrev kept_from : List ℕ → Option KeyedRecord → List KeyHead → KeptRecords
-kept_from name info heads = record { name = name; heads = heads; count = kept_count info heads }
+    record { first = front.0; info = front.1; item = parts.1; basket = all.1 }
 
 module _ (file : List ℕ) (links : List Link) (r : KeyedRecord) (has : HasRecord file links r) (g : IsGarbage (keyed_records links) r) where
   abbrev old : List KeyedRecord
@@ -256,15 +264,15 @@ module _ (file : List ℕ) (links : List Link) (r : KeyedRecord) (has : HasRecor
   stays : (m : State) → AreRecordsOf old m → AreRecordsOf new m
   stays m is = record {
     here = all_less (λ s. not (is_elsewhere s.head)) r old new less is.here;
-    stand = subst (λ (o : Option KeyedRecord). StandsForState new o (top_keys new) m) (sym info) (stands_without old new (top_keys old) (top_keys new) (info_key old) part m is.stand);
+    stand = subst (λ (o : Option KeyedRecord). StandsForState new o (top_keys new) m) (sym info) (stands_without old new (top_keys old) (top_keys new) r less (info_key old) part g.basket m is.stand);
   }
 
   keys_stay : (heads : List KeyHead) → AreKeysOf old heads → AreKeysOf new heads
   keys_stay heads are = record { ordered = are.ordered; each = subst (λ (hs : List KeyHead). (head : KeyHead) → Contains heads head ↔ Contains hs head) (sym items) are.each }
 
-  kept_stays : kept_in (links_without links r) ≡ kept_in links
-  unfolding kept_in
-  kept_stays = λ i. kept_from (name i) (info i) (items i)
+  kept_stays : (pending : PendingRows) → kept_with pending (links_without links r) ≡ kept_with pending links
+  unfolding kept_with
+  kept_stays pending = let trees = part.trees in λ i. kept_of pending (name i) (info i) (items i) (trees i)
 
   same_without : IsSameWithout links r
   same_without = record { records = stays; keys = keys_stay; info = info; name = name; kept = kept_stays }
@@ -272,7 +280,9 @@ module _ (file : List ℕ) (links : List Link) (r : KeyedRecord) (has : HasRecor
   referred_still : (s : KeyedRecord) → is_referred new s ≡ is_referred old s
   referred_still s =
       let greatest = part.greatest s in
+      let trees = part.trees in
       λ i. (s.head.seek == first_place) || (s.head.seek == info_place (info i)) || (is_top_key s.head && (not (is_tree_key s.head) || greatest i))
+      || is_named_place (file_classes (info i)) (trees i) s.head.seek
 
 pub garbage_goes : GarbageGoes
 garbage_goes file links r has e = same_without file links r has (garbage (keyed_records links) r e)

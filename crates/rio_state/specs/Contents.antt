@@ -1,13 +1,13 @@
--- What stands in the record of a class list, of an object and of a tree: over the record's bytes, so that it is the same for a
--- walk through the file and for its key list.
-use Rattle.std.specs.Prelude.{◌≡◌, ◌≤◌, ◌+◌, List, [], drop, length, codes, Bool, ◌&&◌, not, Option, Some, None, Result, Ok, Err, refl, if◌then◌else◌}
+-- What stands in the record of a class list and of an object: over the record's bytes, so that it is the same for a walk through
+-- the file and for its key list.
+use Rattle.std.specs.{Prelude.{◌≡◌, ◌≤◌, ◌+◌, List, [], drop, length, codes, Bool, ◌&&◌, not, Option, Some, None, Result, Ok, Err, if◌then◌else◌}, Result.{result_unwrap_or}}
 use Rattle.rio_num.specs.Room.{is_padding}
 use Rattle.rio_types.specs.declared.class.ClassDef.{ClassDef}
 use Rattle.rio_value.specs.declared.value.Value.{Value}
 use Rattle.rio_buffer.specs.{Frames.{Step}, declared.fault.ObjFault.{ObjFault}}
 use Rattle.rio_format.specs.{ClassList.{class_list_at}, Fits.{fits}, Objects.{first_at}, Slots.{can_be_put}, TreeClasses.{tree_classes, written_classes}}
 use Rattle.rio_model.specs.StateClasses.{StateClasses}
-use Rattle.rio_machine.specs.{Limits.{has_long_list, is_too_deep, is_too_long}, State.{Tree}}
+use Rattle.rio_machine.specs.Limits.{has_long_list, is_too_deep, is_too_long}
 use Rattle.rio_state.specs.KeyedRecords.{KeyedRecord, record_data}
 
 -- ---- classes
@@ -24,6 +24,20 @@ classes_behind (Err e) = []
 abbrev pub state_classes : Option KeyedRecord → List ClassDef
 state_classes None = []
 state_classes (Some info) = classes_behind (described_in info)
+
+-- the classes that a file describes by the class list that counts, those of trees too; none where it has no list
+abbrev pub described_classes : Option KeyedRecord → List ClassDef
+described_classes None = []
+described_classes (Some info) = result_unwrap_or (described_in info) []
+
+-- The classes of a file: all that it describes, and those that are declared in it. Headers of trees are read by the first, objects
+-- and rows by the second.
+pub record FileClasses : Type 0 where
+  pub described : List ClassDef
+  pub declared : List ClassDef
+
+abbrev pub file_classes : Option KeyedRecord → FileClasses
+file_classes info = record { described = described_classes info; declared = state_classes info }
 
 -- A class list stands for declared classes: it describes the classes of trees and then those, which class commands can have
 -- declared from no classes on, and its cycle isn't higher than so many commands make it.
@@ -54,15 +68,3 @@ stored_in classes r (Err e) = None
 -- The value fits, is one that a put takes and passes no limit. Places in the data count from the key's first byte.
 unfoldable pub object_in : List ClassDef → KeyedRecord → Option Value
 object_in classes r = stored_in classes r (first_at classes r.head.class r.head.keylen (record_data r))
-
--- ---- trees
-
--- The tree that a header's record stands for, with its saved rows, if it does; among all records of the file, where its
--- baskets are, and beside the headers of all trees, no two of which name a basket.
--- Trees aren't read yet: no record stands for one, so a file with a tree reads as no state. What rests on that cites `no_tree_is_read`.
-pub tree_of : List ClassDef → List KeyedRecord → List KeyedRecord → KeyedRecord → Option Tree
-tree_of classes records headers r = None
-
-pub no_tree_is_read : (classes : List ClassDef) (records headers : List KeyedRecord) (r : KeyedRecord) → tree_of classes records headers r ≡ None
-unfolding tree_of
-no_tree_is_read classes records headers r = refl

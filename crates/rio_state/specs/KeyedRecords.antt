@@ -1,6 +1,6 @@
 -- The records of a file with their keys: those of its directory, those of objects and trees, and the class list that counts.
 use Rattle.std.specs.Prelude.{ℕ, List, [], ◌∷◌, drop, codes, Bool, ◌==◌, ◌&&◌, ◌||◌, not, nat_lt, Option, Some, None, Result, Ok, Err, if◌then◌else◌}
-use Rattle.std.specs.{List.{filter, filter_map, list_any}, Str.{bytes_eq}}
+use Rattle.std.specs.{List.{filter, filter_map, find, list_any}, Str.{bytes_eq}}
 use Rattle.rio_key.specs.{Key.{key_at}, declared.head.KeyHead.{KeyHead}, declared.fault.KeyFault.{KeyFault}}
 use Rattle.rio_chain.specs.Segments.{Link, RecordAt, GapAt}
 use Rattle.rio_machine.specs.State.{NameAndCycle}
@@ -26,6 +26,14 @@ record_in_link (GapAt place n) = None
 -- the records of a file by its segments, in order of place
 abbrev pub keyed_records : List Link → List KeyedRecord
 keyed_records links = filter_map record_in_link links
+
+-- the record that begins at a place, if one does
+abbrev pub record_at : List KeyedRecord → ℕ → Option KeyedRecord
+record_at records place = find (λ r. r.head.seek == place) records
+
+-- a record begins there
+abbrev pub begins_at : List KeyedRecord → ℕ → Bool
+begins_at records place = list_any (λ r. r.head.seek == place) records
 
 -- ---- the directory
 

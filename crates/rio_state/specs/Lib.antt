@@ -12,3 +12,5 @@ pub mod Reads
 pub mod Reasons
 pub mod Referred
 pub mod Sizes
+pub mod TreeLengths
+pub mod Trees

@@ -5,8 +5,8 @@ use Rattle.rio_key.specs.{Key.{key_at}, declared.head.KeyHead.{KeyHead}}
 use Rattle.rio_dir.specs.Table.{is_at_cycle, with_head}
 use Rattle.rio_chain.specs.{Changes.{with_record}, Placing.{record_count}, Segments.{IsChain, Link, RecordAt, segment_of}}
 use Rattle.rio_machine.specs.State.{State, empty_state}
-use Rattle.rio_state.specs.{Closing.{kept_in, name_in}, DirectoryKeys.{AreKeysOf}}
-use Rattle.rio_state.specs.{KeyedRecords.{KeyedRecord, info_key, is_info_key, is_internal, is_top_key, is_tree_key, keyed_records}, Reads.{AreRecordsOf}}
+use Rattle.rio_state.specs.{Closing.{kept_with, name_in}, DirectoryKeys.{AreKeysOf}, TreeLengths.{PendingRows}}
+use Rattle.rio_state.specs.{KeyedRecords.{KeyedRecord, begins_at, info_key, is_info_key, is_internal, is_top_key, is_tree_key, keyed_records}, Reads.{AreRecordsOf}}
 
 -- the second list is the first with one more in it
 pub record HasOneMoreIn {A : Type 0} (old new : List A) (x : A) : Type 0 where
@@ -28,6 +28,11 @@ abbrev pub RecordMore : Type 0
 RecordMore = (links : List Link) (place : ℕ) (bytes : List ℕ) (head : KeyHead) → KeyIsRead place bytes head
     → HasOneMoreIn (keyed_records links) (keyed_records (with_record place bytes links)) (keyed_bytes head bytes)
 
+-- of the records of a chain no other begins at the place of one
+abbrev pub PlacesDiffer : Type 0
+PlacesDiffer = (file : List ℕ) (links : List Link) (others : List KeyedRecord) (r : KeyedRecord) → IsChain links file → HasOneMoreIn others (keyed_records links) r
+    → begins_at others r.head.seek ≡ false
+
 -- one that isn't a class list leaves the class list that counts
 abbrev pub InfoStays : Type 0
 InfoStays = (old new : List KeyedRecord) (r : KeyedRecord) → HasOneMoreIn old new r → is_info_key r.head ≡ false → info_key new ≡ info_key old
@@ -45,14 +50,14 @@ CountGrows = (links : List Link) (place : ℕ) (bytes : List ℕ) → record_cou
 pub record ReadsAsEmpty (links : List Link) : Type 0 where
   pub records : AreRecordsOf (keyed_records links) empty_state
   pub keys : AreKeysOf (keyed_records links) []
-  pub kept : kept_in links ≡ record { name = name_in (keyed_records links); heads = []; count = 1 }
+  pub kept : (pending : PendingRows) → kept_with pending links ≡ record { name = name_in (keyed_records links); heads = []; count = 1; trees = [] }
 
 abbrev pub EmptyIsRead : Type 0
 EmptyIsRead = (file : List ℕ) (place : ℕ) (bytes : List ℕ) → IsChain (RecordAt place bytes ∷ []) file → ReadsAsEmpty (RecordAt place bytes ∷ [])
 
--- with one more record that the file itself needs the records stand for the same state
+-- with one more record that the file itself needs, at whose place no record began, the records stand for the same state
 abbrev pub InternalStays : Type 0
-InternalStays = (old new : List KeyedRecord) (r : KeyedRecord) (m : State) → HasOneMoreIn old new r → is_internal r.head ≡ true
+InternalStays = (old new : List KeyedRecord) (r : KeyedRecord) (m : State) → HasOneMoreIn old new r → is_internal r.head ≡ true → begins_at old r.head.seek ≡ false
     → AreRecordsOf old m → AreRecordsOf new m
 
 -- the key of one more object, whose name and cycle are new, stands in its place
@@ -67,5 +72,5 @@ KeysStay = (old new : List KeyedRecord) (r : KeyedRecord) (heads : List KeyHead)
 
 -- a record more that the file itself needs isn't one that it keeps
 abbrev pub NeedStays : Type 0
-NeedStays = (file : List ℕ) (links : List Link) (place : ℕ) (bytes : List ℕ) (head : KeyHead) → IsChain links file → KeyIsRead place bytes head → is_internal head ≡ true
-    → kept_in (with_record place bytes links) ≡ kept_in links
+NeedStays = (pending : PendingRows) (file : List ℕ) (links : List Link) (place : ℕ) (bytes : List ℕ) (head : KeyHead) → IsChain links file → KeyIsRead place bytes head → is_internal head ≡ true
+    → kept_with pending (with_record place bytes links) ≡ kept_with pending links

@@ -1,7 +1,7 @@
 -- What a file reads as. By a walk: its bytes are segments, and the segments' records stand for a state. By its key list: the
 -- records that the list names stand for the state.
 use Rattle.std.specs.Prelude.{◌≡◌, ℕ, List, [], ◌∷◌, ◌++◌, length, map, Bool, true, false, ◌==◌, ◌&&◌, not, MatchBool, Option, Some, None, is_some, option_and_then, Ok}
-use Rattle.std.specs.{FinMap.{get}, List.{All, Contains, find, list_all, list_any}, Str.{bytes_eq}}
+use Rattle.std.specs.{FinMap.{get}, List.{All, Contains, find, list_all, list_any}}
 use Rattle.rio_num.specs.{Word.{is_item_text}, Room.{is_padding}}
 use Rattle.rio_types.specs.declared.class.ClassDef.{ClassDef}
 use Rattle.rio_value.specs.declared.value.Value.{Value}
@@ -10,8 +10,8 @@ use Rattle.rio_head.specs.{Form.{is_large_head}, Head.{head_at}, declared.head.F
 use Rattle.rio_free.specs.Record.{free_bytes}
 use Rattle.rio_dir.specs.{Closed.{closed_file}, Unborn.{is_unborn}, declared.closed.Closed.{Closed}}
 use Rattle.rio_chain.specs.{Placing.{gaps_in}, Segments.{IsChain, Link, chain_end, segment_of}}
-use Rattle.rio_machine.specs.State.{NameAndCycle, State, Tree, empty_state}
-use Rattle.rio_state.specs.Contents.{HasStateClasses, object_in, state_classes, tree_of}
+use Rattle.rio_machine.specs.State.{NameAndCycle, State, empty_state}
+use Rattle.rio_state.specs.{Contents.{HasStateClasses, object_in, state_classes}, Trees.{tree_of, tree_under, trees_beside}}
 use Rattle.rio_state.specs.KeyedRecords.{KeyedRecord, has_item, info_key, is_elsewhere, is_mixed_name, is_top_key, item_of_key, keyed_records, object_records, record_data, top_keys, tree_records}
 
 -- ---- keys with their records
@@ -29,11 +29,6 @@ are_distinct (r ∷ rs) = not (list_any (has_item (item_of_key r.head)) rs) && a
 abbrev pub object_under : List ClassDef → List KeyedRecord → NameAndCycle → Option Value
 object_under classes tops item = option_and_then (object_in classes) (find (has_item item) (object_records tops))
 
--- the same of trees; the records of the file are those among which a tree's baskets are
-abbrev pub tree_under : List ClassDef → List KeyedRecord → List KeyedRecord → List ℕ → Option Tree
-tree_under classes records tops name =
-    option_and_then (tree_of classes records (tree_records tops)) (find (λ r. bytes_eq r.head.name name) (tree_records tops))
-
 -- These keys of objects and trees, with their records, and this class list stand for the state, among all records of a file.
 pub record StandsForState (records : List KeyedRecord) (info : Option KeyedRecord) (tops : List KeyedRecord) (m : State) : Type 0 where
   -- the classes are those of the class list
@@ -48,8 +43,8 @@ pub record StandsForState (records : List KeyedRecord) (info : Option KeyedRecor
   pub readable : list_all (λ r. is_some (object_in (state_classes info) r)) (object_records tops) ≡ true
   pub objects : (item : NameAndCycle) → get m.objects item ≡ object_under (state_classes info) tops item
   -- of each name of trees the key with the greatest cycle is that of a tree, and these are the state's trees
-  pub tree_readable : list_all (λ r. is_some (tree_of (state_classes info) records (tree_records tops) r)) (tree_records tops) ≡ true
-  pub trees : (name : List ℕ) → get m.trees name ≡ tree_under (state_classes info) records tops name
+  pub tree_readable : list_all (λ r. is_some (tree_of (trees_beside info records tops) r)) (tree_records tops) ≡ true
+  pub trees : (name : List ℕ) → get m.trees name ≡ tree_under (trees_beside info records tops) name
 
 -- ---- by a walk
 

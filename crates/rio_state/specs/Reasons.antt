@@ -2,13 +2,12 @@
 use Rattle.std.specs.Prelude.{◌≡◌, ◌⊎◌, ℕ, ◌+◌, List, [], ◌∷◌, ◌++◌, length, slice_get, Bool, true, false, ◌==◌, ◌&&◌, not, nat_lt, MatchBool, Option, Some, None, is_some, Ok}
 use Rattle.std.specs.{List.{flat_map, list_any}, Option.{option_map_or}}
 use Rattle.rio_num.specs.Word.{is_item_text}
-use Rattle.rio_types.specs.declared.class.ClassDef.{ClassDef}
 use Rattle.rio_head.specs.{Form.{is_large_head}, Head.{head_at}, declared.head.FileHead.{FileHead}}
 use Rattle.rio_head.specs.declared.reason.Reason.{Reason, TheVariants.{LargeForm, NoChain, OtherDirectory, BadInfo, BadName, BadKey, BadObject, BadTree, DoubleKey, MixedName, TooMany, NoRoom}}
 use Rattle.rio_dir.specs.Unborn.{is_unborn}
 use Rattle.rio_chain.specs.Segments.{BreaksAt, IsChain, Link, chain_end}
 use Rattle.rio_machine.specs.Limits.{item_limit}
-use Rattle.rio_state.specs.{Closing.{close_need, end_limit, kept_in}, Contents.{HasStateClasses, object_in, state_classes, tree_of}}
+use Rattle.rio_state.specs.{Closing.{close_need, end_limit, kept_in}, Contents.{FileClasses, HasStateClasses, file_classes, object_in}, Trees.{TreesBeside, tree_of}}
 use Rattle.rio_state.specs.KeyedRecords.{KeyedRecord, has_item, info_key, is_elsewhere, is_mixed_name, is_tree_key, is_tree_record, item_of_key, keyed_records, object_records, top_keys, tree_records}
 
 -- a reason, and the place where
@@ -34,19 +33,22 @@ directory_reasons records = flat_map (λ r. reason_if (is_elsewhere r.head) r.he
 abbrev pub info_reasons : Bool → Option KeyedRecord → List ReasonAt
 info_reasons listed info = reason_if (not listed) (option_map_or (λ r. r.head.seek) info 0) BadInfo
 
--- what is to be known beside a key: the classes, all records of the file, and all keys of objects and trees
+-- what is to be known beside a key: the classes and all records of the file, and all keys of objects and trees
 pub record Beside : Type 0 where
-  pub classes : List ClassDef
+  pub classes : FileClasses
   pub records : List KeyedRecord
   pub tops : List KeyedRecord
 
 abbrev pub is_bad_object : Beside → KeyedRecord → Bool
-is_bad_object beside r = not (is_tree_key r.head) && not (is_some (object_in beside.classes r))
+is_bad_object beside r = not (is_tree_key r.head) && not (is_some (object_in beside.classes.declared r))
+
+-- what is to be known beside a tree's key
+abbrev pub beside_trees : Beside → TreesBeside
+beside_trees beside = record { classes = beside.classes; records = beside.records; headers = tree_records beside.tops }
 
 -- a tree's key that isn't its name's highest cycle isn't read
 abbrev pub is_bad_tree : Beside → KeyedRecord → Bool
-is_bad_tree beside r =
-    is_tree_record beside.tops r && not (is_some (tree_of beside.classes beside.records (tree_records beside.tops) r))
+is_bad_tree beside r = is_tree_record beside.tops r && not (is_some (tree_of (beside_trees beside) r))
 
 -- a key of an object or a tree, behind the keys before it, in the order of testing
 abbrev pub key_reasons : Beside → List KeyedRecord → KeyedRecord → List ReasonAt
@@ -68,7 +70,7 @@ keys_reasons beside before (r ∷ rs) = key_reasons beside before r ++ keys_reas
 unfoldable pub state_reasons : Bool → List KeyedRecord → List ReasonAt
 state_reasons listed records =
     let tops = top_keys records in
-    let beside : Beside = record { classes = state_classes (info_key records); records = records; tops = tops } in
+    let beside : Beside = record { classes = file_classes (info_key records); records = records; tops = tops } in
     directory_reasons records ++ (info_reasons listed (info_key records) ++ keys_reasons beside [] tops)
 
 -- ---- why nothing can be written behind a state

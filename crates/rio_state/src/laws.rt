@@ -1,8 +1,8 @@
 //! Laws of what files read as.
 ghost use Rattle.rio_state.specs.Cleaning.{GarbageIsLeft};
-ghost use Rattle.rio_state.specs.Holding.{HeldIsLimited};
-ghost use Rattle.rio_state.specs.OneLess.{FirstIsKept, GarbageGoes, NeedFalls, OthersAreReferred, RecordLess};
-ghost use Rattle.rio_state.specs.OneMore.{CountGrows, EmptyIsRead, FirstStays, InfoStays, InternalStays, KeysFollow, KeysStay, NeedStays, RecordMore};
+ghost use Rattle.rio_state.specs.Holding.{HeadersAreBytes, HeldIsLimited};
+ghost use Rattle.rio_state.specs.OneLess.{FirstIsKept, GarbageGoes, NeedFalls, OthersAreReferred, RecordLess, TreeGoes};
+ghost use Rattle.rio_state.specs.OneMore.{CountGrows, EmptyIsRead, FirstStays, InfoStays, InternalStays, KeysFollow, KeysStay, NeedStays, PlacesDiffer, RecordMore};
 ghost use Rattle.rio_state.specs.Sizes.{CloseSizeIsNeed};
 ghost use Rattle.rio_state.specs.Laws.{HasOneReason, NoReasonIsRead, ReadsAsOneState, ReadsMeetsNoReason};
 
@@ -30,9 +30,10 @@ pub fn no_reason_is_read()
 /// A record that is put at the place of a gap, or at END, is one more among the records of the
 /// file, and one more among its segments. The first record stays the first, and the class list
 /// that counts stays too, where the record isn't one. The key of one more object stands in its place
-/// among the keys that are kept beside the file.
+/// among the keys that are kept beside the file. No other record of a chain begins at the place of one.
 pub fn record_more()
     ensures more { RecordMore }
+    ensures places { PlacesDiffer }
     ensures info { InfoStays }
     ensures first { FirstStays }
     ensures count { CountGrows }
@@ -44,16 +45,17 @@ pub fn empty_is_read()
     ensures { EmptyIsRead }
 {}
 
-/// With one more record that the file itself needs, as a key list, a free record or a basket, a
-/// file reads as the same state, has the same keys, and keeps what it kept.
+/// With one more record that the file itself needs, as a key list, a free record or a basket, and at
+/// whose place no record began, a file reads as the same state, has the same keys, and keeps what it
+/// kept, whatever rows are pending.
 pub fn internal_stays()
     ensures state { InternalStays }
     ensures keys { KeysStay }
     ensures need { NeedStays }
 {}
 
-/// What `close_length` returns is what a close needs, where a file keeps records of this name,
-/// heads of so many bytes, and so many records.
+/// What `close_length` returns, with the records of the saves that are due, is what a close needs, where a
+/// file keeps records of this name, heads of so many bytes, and so many records and open baskets.
 pub fn close_length_is_need()
     ensures { CloseSizeIsNeed }
 {}
@@ -74,13 +76,21 @@ pub fn garbage_goes()
     ensures left { GarbageIsLeft }
 {}
 
-/// Without a record that is neither the first nor a tree's, a close needs no more, and neither END with
-/// that nor what the file holds rises.
+/// Without the header of a tree, where it is the last one of its name, a file reads as the state without the tree,
+/// and nothing refers to the baskets that the header named.
+pub fn tree_goes()
+    ensures { TreeGoes }
+{}
+
+/// Without a record that is neither the first, nor that of the class list that counts, nor a tree's, a close
+/// needs no more, and neither END with that nor what the file holds rises.
 pub fn need_falls()
     ensures { NeedFalls }
 {}
 
-/// A file holds at most three times its length, and 10,000.
+/// A file that reads as a state holds at most three times its length, and 10,000, where the data of its trees' headers are
+/// bytes. So they are in a file of bytes.
 pub fn held_is_limited()
-    ensures { HeldIsLimited }
+    ensures held { HeldIsLimited }
+    ensures headers { HeadersAreBytes }
 {}

@@ -10,5 +10,5 @@ pub use closing::{END_LIMIT, close_length, own_key_length};
 pub use laws::{
     close_length_is_need, empty_is_read, garbage_goes, held_is_limited, internal_stays,
     meets_no_reason, need_falls, no_reason_is_read, one_reason, one_state, record_less,
-    record_more,
+    record_more, tree_goes,
 };

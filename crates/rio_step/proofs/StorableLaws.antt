@@ -16,11 +16,11 @@ use Rattle.rio_machine.specs.Rows.{Column, column_slot, columns_bytes, columns_f
 use Rattle.rio_machine.specs.declared.command.Command.{Command, TheVariants.{Bad, Class, Put, Delete, Tree as MakeTree, Fill, Save, Get, Scan, Ls}}
 use Rattle.rio_machine.specs.declared.refusal.Refusal.{Refusal, TheVariants.{BadName, NoSuchClass, CycleLimit, TooLarge, TooDeep, TooMany}}
 use Rattle.rio_machine.specs.State.{NameAndCycle, Row, State, Tree, empty_state, item_order, names_tree, next_cycle}
-use Rattle.rio_model.specs.Declaring.{is_declared, declared}
+use Rattle.rio_model.specs.Declaring.{is_declared, declared, shape_lacks_class}
 use Rattle.rio_step.proofs.{ApartLaws.{names_stay_apart, none_at, not_refused}, DeclaredLaws.{classes_stay_declared}, FitLaws.{put_more}}
 use Rattle.rio_step.proofs.{FitStays.{all_pushed, columns_more, object_more, unrefused_fit, unrefused_row}, WritingLaws.{slot_written, written_same}}
 use Rattle.rio_step.specs.Statable.{is_statable}
-use Rattle.rio_step.specs.Refusing.{FullMark, fill_row, goes_too_deep, has_too_many, is_at_last_cycle, is_list_name, is_too_large, lacks_class, put_value, refusal_of, refusals, object_class, rows_of_tree, shape_lacks_class}
+use Rattle.rio_step.specs.Refusing.{FullMark, fill_row, goes_too_deep, has_too_many, is_at_last_cycle, is_list_name, is_too_large, lacks_class, put_value, refusal_of, refusals, object_class, rows_of_tree}
 use Rattle.rio_step.specs.Step.{by_refusal, new_tree, state_behind, step, tree_filled, tree_saved, with_tree, without_item}
 use Rattle.rio_step.specs.Storable.{IsStorable, IsStoredName, IsStoredObject, IsStoredTree, StaysStorable, is_stored_row}
 use Rattle.rio_machine.proofs.OrderLaws.{items_tie, items_total, names_tie, names_total}
@@ -47,7 +47,7 @@ module _ (classes : List ClassDef) (class : ClassDef) where
       let later = columns_same cs ds vs (leaf_numbers_behind c v counters) parts.1 in
       ((λ i. (own i 0 no_words).0 ++ later.0 i), later.1)
 
-  entries_same : (bs : List BranchDef) (row : List Value) (counters : Counters) → columns_fit classes (columns_of bs) row counters ≡ true → entries_from more bs row counters ≡ entries_from classes bs row counters
+  pub entries_same : (bs : List BranchDef) (row : List Value) (counters : Counters) → columns_fit classes (columns_of bs) row counters ≡ true → entries_from more bs row counters ≡ entries_from classes bs row counters
   entries_same [] row counters e = refl
   entries_same (b ∷ bs) row counters e =
       let first = columns_same (shape_columns b.shape) (columns_of bs) row counters e in

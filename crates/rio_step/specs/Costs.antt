@@ -1,11 +1,11 @@
 -- What commands may cost of a file's room, by the state alone; and whether there is room for all commands of a run.
 use Rattle.std.specs.{Prelude.{◌≤◌, ℕ, ◌+◌, ◌*◌, List, [], ◌∷◌, length, ◌==◌, is_some, if◌then◌else◌, None}, FinMap.{get}, List.{sum_by}}
 use Rattle.std.specs.Option.{option_map_or}
-use Rattle.rio_leaf.specs.declared.branch.BranchDef.{BranchDef}
 use Rattle.rio_types.specs.declared.class.ClassDef.{ClassDef}
 use Rattle.rio_value.specs.declared.value.Value.{Value}
 use Rattle.rio_format.specs.{Written.{written_form}, WrittenBytes.{written_list}}
 use Rattle.rio_machine.specs.{Rows.{entries_of}, State.{Row, State, Tree}}
+use Rattle.rio_tree.specs.HeaderLength.{header_size}
 use Rattle.rio_machine.specs.declared.command.Command.{Command, TheVariants.{Bad, Class, Put, Delete, Tree as MakeTree, Fill, Save, Get, Scan, Ls}}
 use Rattle.rio_step.specs.{Refusing.{fill_row, put_value, refusal_of, rows_of_tree, with_class}, Runs.{Marks, first_step, later_marks}}
 
@@ -17,11 +17,6 @@ value_size classes v = length (written_form classes 0 v)
 
 abbrev pub info_size : List ClassDef → ℕ
 info_size classes = length (written_list 0 classes)
-
--- How long the header of a tree without baskets is. Headers aren't written yet: no command makes a tree, and no law can look
--- into what is said here.
-pub header_size : List ℕ → List BranchDef → ℕ
-header_size name branches = 0
 
 -- ---- commands
 

@@ -2,6 +2,7 @@ pub mod CommandLaws
 pub mod CommandSpelling
 pub mod Costs
 pub mod ItemKeys
+pub mod KeptItems
 pub mod Laws
 pub mod Refusing
 pub mod ReplyText

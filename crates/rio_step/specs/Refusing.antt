@@ -2,11 +2,10 @@
 use Rattle.std.specs.Prelude.{ℕ, List, [], ◌∷◌, ◌++◌, length, codes, Bool, false, ◌==◌, ◌&&◌, ◌||◌, not, nat_lt, nat_le, Option, Some, None, is_some, unwrap_or, option_and_then, Ok, Err, ℤ, if◌then◌else◌}
 use Rattle.std.specs.{FinMap.{contains_key, get}, List.{list_any}, Option.{option_map, option_map_or, option_or}, Str.{bytes_eq}}
 use Rattle.rio_num.specs.Reading.{◌>>=◌}
-use Rattle.rio_leaf.specs.declared.branch.Shape.{Shape, TheVariants.{Leaves, Class as Objects}}
 use Rattle.rio_types.specs.{Classes.{find_in}, declared.class.Base.{Base}, declared.class.ClassDef.{ClassDef}}
 use Rattle.rio_value.specs.{declared.value.Value.{Value, out-Value, TheOpen.{Value-F, Object}}, declared.value.Part.{Part}}
 use Rattle.rio_format.specs.{Fits.{fits}, Slots.{can_be_put}, WrittenBytes.{written_list}}
-use Rattle.rio_model.specs.Declaring.{class_limit, declared, holds_itself, is_declared, is_reserved_name, knows_all}
+use Rattle.rio_model.specs.Declaring.{class_limit, declared, holds_itself, is_declared, is_reserved_name, knows_all, shape_lacks_class}
 use Rattle.rio_model.specs.Resolving.{is_known_version, resolved, resolved_row}
 use Rattle.rio_machine.specs.Limits.{cycle_limit, data_length, has_all_items, has_long_entry, has_long_list, has_many_branches, is_too_deep, is_too_long}
 use Rattle.rio_machine.specs.{Rows.{row_fits}, State.{Row, State, Tree, last_cycle, names_item, names_object, names_tree, next_cycle}}
@@ -115,10 +114,6 @@ is_name_in_use m other = false
 -- an object of a class that is built in, but that no put takes
 abbrev pub is_kept_out : List ClassDef → Value → Bool
 is_kept_out classes v = option_map_or (λ class. not (can_be_put classes class)) (object_class v) false
-
-abbrev pub shape_lacks_class : List ClassDef → Shape → Bool
-shape_lacks_class classes (Leaves leaves) = false
-shape_lacks_class classes (Objects class) = not (is_declared classes class)
 
 -- a class is named that isn't known, or may not stand there; the class of a branch or of a scan is a declared one
 abbrev pub lacks_class : State → Command → Bool

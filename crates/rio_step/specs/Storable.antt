@@ -4,10 +4,10 @@ use Rattle.rio_num.specs.Word.{is_item_text}
 use Rattle.rio_leaf.specs.{Stated.{are_stated_branches}, declared.branch.BranchDef.{BranchDef}}
 use Rattle.rio_types.specs.declared.class.ClassDef.{ClassDef}
 use Rattle.rio_value.specs.declared.value.Value.{Value}
-use Rattle.rio_model.specs.StateClasses.{StateClasses}
+use Rattle.rio_model.specs.{Declaring.{shape_lacks_class}, StateClasses.{StateClasses}}
 use Rattle.rio_machine.specs.{Limits.{cycle_limit, has_long_entry, has_long_list, has_many_branches, is_too_deep, is_too_long}, Rows.{row_fits}}
 use Rattle.rio_machine.specs.{State.{NameAndCycle, Row, State, Tree, empty_state}, declared.command.Command.{Command}}
-use Rattle.rio_step.specs.{Laws.{AreNamesApart}, Refusing.{FullMark, is_fit, is_kept_out, is_list_name, object_length, rows_of_tree, shape_lacks_class}}
+use Rattle.rio_step.specs.{Laws.{AreNamesApart}, Refusing.{FullMark, is_fit, is_kept_out, is_list_name, object_length, rows_of_tree}}
 use Rattle.rio_step.specs.{Statable.{is_statable}, Step.{step}}
 
 -- a name and a cycle that an object or a tree may have

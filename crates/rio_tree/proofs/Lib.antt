@@ -8,4 +8,6 @@ mod WrittenSaid
 pub mod LabelLaws
 pub mod MetLaws
 pub mod NumberLaws
+pub mod HeaderLengths
 pub mod StoredLaws
+pub mod WrittenLengths

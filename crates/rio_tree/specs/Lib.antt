@@ -1,11 +1,13 @@
 pub mod BranchMembers
 pub mod Header
+pub mod HeaderLength
 pub mod HeaderLeaves
 pub mod Index
 pub mod Labels
 pub mod Members
 pub mod Refusals
 pub mod Results
+pub mod SavedEntries
 pub mod Tables
 pub mod Texts
 pub mod WrittenBaskets

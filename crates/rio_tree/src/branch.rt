@@ -52,8 +52,8 @@ fn have_offsets(leaves: &[Leaf]) -> bool
     leaves.iter().any(|leaf| varies_in_length(leaf))
 }
 
-// Whether entries may have different lengths.
-fn has_offsets(shape: &Shape) -> bool
+/// Whether entries of a branch of this shape may have different lengths. Its baskets have a table of offsets then.
+pub fn has_offsets(shape: &Shape) -> bool
     ensures { result ≡ has_offsets shape.now }
 {
     match shape {

@@ -11,8 +11,9 @@
 //! the code.
 //!
 //! [`tree_value`] makes the header that is written for a tree. It fits the class TTree among the classes of trees
-//! ([`written_tree_fits`]) and is read as the same [`TreeHead`] ([`written_tree_is_read`]). `specs/WrittenTree.antt` has
-//! the value that is written, `specs/WrittenLaws.antt` the laws. `specs/WrittenBaskets.antt` and
+//! ([`written_tree_fits`]) and is read as the same [`TreeHead`] ([`written_tree_is_read`]). How long it is follows from
+//! name, branches and the number of baskets ([`header_length_is_known`]). `specs/WrittenTree.antt` has the value that is
+//! written, `specs/WrittenLaws.antt` the laws, and `specs/HeaderLength.antt` the length. `specs/WrittenBaskets.antt` and
 //! `specs/WrittenLabels.antt` speak of the code. Tests stand in `rio_rows`.
 #![tactic(auto)]
 
@@ -37,9 +38,10 @@ mod written_labels;
 mod written_leaf;
 
 pub use basket_at::{BasketAt, Baskets};
+pub use branch::has_offsets;
 pub use fault::TreeFault;
 pub use head::{Branch, BranchNumbers, Branches, TreeHead};
-pub use laws::{written_tree_fits, written_tree_is_read};
+pub use laws::{header_length_is_known, written_tree_fits, written_tree_is_read};
 pub use read::read_tree;
 pub use refusal::BranchRefusal;
 pub use written::tree_value;

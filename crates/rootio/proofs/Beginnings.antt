@@ -1,8 +1,8 @@
 -- The records with which a run begins, and the keys among them in order.
-use Rattle.std.proofs.Common.{◌≡◌, ◌∙◌, inl, inr, ⊎_elim, ℕ, ◌≤◌, ◌%◌, ◌/◌, List, [], ◌∷◌, ◌++◌, length, map, Bool, true, false, cond, not, ◌||◌, Option, Some, None, refl, sym, ap, subst, arith}
-use Rattle.std.proofs.{lemmas.Bool.{and_from, and_parts, not-true}, lemmas.List.{append-nil}}
+use Rattle.std.proofs.Common.{◌≡◌, ◌∙◌, inl, inr, ⊎_elim, ℕ, ◌≤◌, ◌%◌, ◌/◌, List, [], ◌∷◌, ◌++◌, length, map, Bool, true, false, not, ◌||◌, Option, Some, None, refl, sym, ap, subst, arith}
+use Rattle.std.proofs.{lemmas.Bool.{and_from, and_parts, not-true}, lemmas.Option.{same_Some}}
 use Rattle.std.specs.Prelude.{MatchBool, codes, is_some, replicate}
-use Rattle.std.specs.{Int.{bytes_high_first, cast_unsigned, w32}, List.{filter, list_all, list_any}}
+use Rattle.std.specs.{Int.{bytes_high_first, cast_unsigned, w32}, List.{filter, list_any}}
 use Rattle.rio_num.specs.{Room.{padding}, Text.{text_bytes}}
 use Rattle.rio_key.specs.declared.head.KeyHead.{KeyHead}
 use Rattle.rio_head.specs.Uuid.{uuid_of_file}
@@ -10,10 +10,11 @@ use Rattle.rio_dir.specs.{Listing.{key_lines}, Table.{AreOrdered, is_at_cycle, w
 use Rattle.rio_dir.proofs.TableLists.{ordered_with}
 use Rattle.rio_chain.specs.{Record.{new_key, record_bytes}, Segments.{Link, RecordAt}}
 use Rattle.rio_machine.specs.State.{State, empty_state}
-use Rattle.rio_state.specs.{Closing.{item_heads}, Contents.{no_tree_is_read, state_classes, tree_of}, DirectoryKeys.{AreKeysOf}}
-use Rattle.rio_state.specs.KeyedRecords.{KeyedRecord, has_item, info_key, item_of_key, keyed_records, object_records, top_keys, tree_records}
+use Rattle.rio_state.specs.DirectoryKeys.{AreKeysOf}
+use Rattle.rio_state.specs.KeyedRecords.{KeyedRecord, has_item, is_outdated, is_tree_key, is_tree_record, item_of_key, keyed_records, object_records, top_keys, tree_records}
 use Rattle.rio_state.specs.Reads.{AreRecordsOf, ReadsAsMade, ReadsAsState, are_distinct}
-use Rattle.rio_state.proofs.{KeysFollow.{head_more, in_before, in_new, in_still}, Members.{In, contains_in, filter_in, in_contained, none_at, none_from}}
+use Rattle.rio_state.proofs.{KeysFollow.{head_more, in_before, in_new, in_still}, Members.{In, contains_in, filter_in, in_contained, in_either, none_at, none_from}}
+use Rattle.rio_state.proofs.{Collected.{own_item}, KeyRecords.{distinct_filter, distinct_found}}
 use Rattle.rio_create.specs.NewFile.{file_texts, first_links, first_record, first_words}
 use Rattle.rio_create.proofs.{NewFiles.{new_keys}, Uuids.{length-uuid}}
 use Rattle.rio_recover.specs.Cleaning.{cleaned}
@@ -55,46 +56,48 @@ to_ordered (r ∷ rs) h (inl e) =
 to_ordered (r ∷ rs) h (inr i) =
     in_still (ordered_heads rs) (with_head r.head (ordered_heads rs)) r.head (head_more r.head (ordered_heads rs)) h (to_ordered rs h i)
 
--- ---- the keys of a state's objects
+-- ---- the keys of a state's objects and trees
 
-distinct_among : (p : KeyedRecord → Bool) (rs : List KeyedRecord) → are_distinct rs ≡ true → are_distinct (filter p rs) ≡ true
-distinct_among p [] d = refl
-distinct_among p (r ∷ rs) d =
+-- lists of which each is distinct, and no item of one is in the other
+distinct_both : (rs others : List KeyedRecord) → are_distinct rs ≡ true → are_distinct others ≡ true
+    → ((r : KeyedRecord) → In r rs → list_any (has_item (item_of_key r.head)) others ≡ false) → are_distinct (rs ++ others) ≡ true
+distinct_both [] others d e apart = e
+distinct_both (r ∷ rs) others d e apart =
     let has : KeyedRecord → Bool = has_item (item_of_key r.head) in
     let parts = and_parts (not (list_any has rs)) (are_distinct rs) d in
-    let none : list_any has (filter p rs) ≡ false = none_from has (filter p rs) (λ s i e. none_at has s rs (not-true _ parts.0) (filter_in p s rs i).0 e) in
-    by (p r) none (distinct_among p rs parts.1)
-  where
-    by : (b : Bool) → list_any (has_item (item_of_key r.head)) (filter p rs) ≡ false → are_distinct (filter p rs) ≡ true
-        → are_distinct (cond b (r ∷ filter p rs) (filter p rs)) ≡ true
-    by true none rest = and_from _ _ (ap not none) rest
-    by false none rest = rest
-
--- no record stands for a tree yet
-no_trees : (records rs : List KeyedRecord)
-    → list_all (λ r. is_some (tree_of (state_classes (info_key records)) records (tree_records (top_keys records)) r)) rs ≡ true → rs ≡ []
-no_trees records [] e = refl
-no_trees records (r ∷ rs) e =
-    let read : KeyedRecord → Bool = λ s. is_some (tree_of (state_classes (info_key records)) records (tree_records (top_keys records)) s) in
-    let one : false ≡ true = ap is_some (sym (no_tree_is_read (state_classes (info_key records)) records (tree_records (top_keys records)) r)) ∙ (and_parts (read r) (list_all read rs) e).0 in
-    absurd cc
+    let none : list_any has (rs ++ others) ≡ false = none_from has (rs ++ others) (λ s i there.
+    ⊎_elim (λ j. none_at has s rs (not-true _ parts.0) j there) (λ j. none_at has s others (apart r (inl refl)) j there) (in_either s rs others i)) in
+    and_from _ _ (ap not none) (distinct_both rs others parts.1 e (λ s i. apart s (inr i)))
 
 module _ (records : List KeyedRecord) (m : State) (are : AreRecordsOf records m) where
-  abbrev objects : List KeyedRecord
-  objects = object_records (top_keys records)
+  abbrev tops : List KeyedRecord
+  tops = top_keys records
 
-  heads_are : item_heads (top_keys records) ≡ map (λ r. r.head) objects
-  heads_are =
-      ap (λ (ts : List KeyedRecord). map (λ r. r.head) (objects ++ ts)) (no_trees records (tree_records (top_keys records)) are.stand.tree_readable)
-      ∙ ap (map (λ r. r.head)) (append-nil objects)
+  abbrev items : List KeyedRecord
+  items = object_records tops ++ tree_records tops
+
+  -- no tree has the name and cycle of an object
+  apart : (r : KeyedRecord) → In r (object_records tops) → list_any (has_item (item_of_key r.head)) (tree_records tops) ≡ false
+  apart r i = none_from (has_item (item_of_key r.head)) (tree_records tops) clash
+    where
+      clash : (s : KeyedRecord) → In s (tree_records tops) → has_item (item_of_key r.head) s ≡ true → ⊥
+      clash s j has =
+          let object = filter_in (λ t. not (is_tree_key t.head)) r tops i in
+          let tree = filter_in (is_tree_record tops) s tops j in
+          let one = distinct_found (item_of_key r.head) r tops are.stand.distinct object.0 (own_item r) in
+          let other = distinct_found (item_of_key r.head) s tops are.stand.distinct tree.0 has in
+          let same : s ≡ r = same_Some s r (sym other ∙ one) in
+          let is : is_tree_key r.head ≡ true = ap (λ (t : KeyedRecord). is_tree_key t.head) (sym same) ∙ (and_parts (is_tree_key s.head) (not (is_outdated tops s)) tree.1).0 in
+          let no : false ≡ true = ap not (sym is) ∙ object.1 in
+          absurd cc
 
   -- the records of a state have keys
-  keys_exist : AreKeysOf records (ordered_heads objects)
+  keys_exist : AreKeysOf records (ordered_heads items)
   keys_exist = record {
-    ordered = are_ordered objects (distinct_among _ (top_keys records) are.stand.distinct);
+    ordered = are_ordered items (distinct_both (object_records tops) (tree_records tops) (distinct_filter _ tops are.stand.distinct) (distinct_filter _ tops are.stand.distinct) apart);
     each = λ head. (
-      λ c. contains_in head _ (subst (λ (hs : List KeyHead). In head hs) (sym heads_are) (from_ordered objects head (in_contained head _ c))),
-      λ c. contains_in head _ (to_ordered objects head (subst (λ (hs : List KeyHead). In head hs) heads_are (in_contained head _ c))),
+      λ c. contains_in head _ (from_ordered items head (in_contained head _ c)),
+      λ c. contains_in head _ (to_ordered items head (in_contained head _ c)),
     );
   }
 
@@ -154,7 +157,7 @@ starts name datime file m short reads = by (is_unborn file) refl reads
       keys = no_keys name datime short;
     }
     by false is made =
-        let heads = ordered_heads (objects (keyed_records made.links) m made.records) in
+        let heads = ordered_heads (items (keyed_records made.links) m made.records) in
         record {
           links = cleaned made.links;
           begins = subst (λ (b : Bool). MatchBool b (cleaned made.links ≡ first_links name datime) (OpensMade file (cleaned made.links))) (sym is) (made.links, made.chain, refl);

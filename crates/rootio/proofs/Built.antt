@@ -1,11 +1,10 @@
 -- The commands of a script are built and can be stated.
-use Rattle.std.proofs.{Common.{◌≡◌, ◌<◌, ℕ, Bool, true, false, List, [], ◌∷◌, length, get_or, refl, ap, ◌∙◌}, lemmas.{Bool.{and_from, and_parts}, List.Folds.{list_all_at}}}
+use Rattle.std.proofs.{Common.{◌≡◌, ◌<◌, ℕ, Bool, true, false, List, length, get_or, refl, ap, ◌∙◌}, lemmas.List.Folds.{list_all_at}}
 use Rattle.std.specs.List.{list_all}
 use Rattle.rio_machine.specs.declared.command.Command.{Command, TheVariants.{Bad, Class, Put, Delete, Tree, Fill, Save, Get, Scan, Ls}}
 use Rattle.rio_step.specs.Statable.{IsStatable, is_statable}
 use Rattle.rio_cmd.specs.Laws.{is_built}
 use Rattle.rio_judge.specs.Judging.{is_judged}
-use Rattle.rio_effect.specs.FileRuns.{is_told}
 
 all_at : {X : Type 0} (p : X → Bool) (xs : List X) (i : ℕ) (d : X) → i < length xs → list_all p xs ≡ true → p (get_or xs i d) ≡ true
 all_at p xs i d within all = by_test (p (get_or xs i d)) refl
@@ -31,20 +30,3 @@ built_at cs k c within is all = built_is c (ap is_built is ∙ all_at is_built c
 
 pub statable_at : (cs : List Command) (k : ℕ) (c : Command) → k < length cs → c ≡ get_or cs k c → list_all is_statable cs ≡ true → IsStatable c
 statable_at cs k c within is all = ap is_statable is ∙ all_at is_statable cs k c within all
-
--- what built commands do to a file is told
-told_is : (c : Command) → is_built c ≡ true → is_told c ≡ true
-told_is (Bad line place) e = refl
-told_is (Class class) e = refl
-told_is (Put name v) e = refl
-told_is (Delete name cycle) e = refl
-told_is (Tree name branches) e = absurd cc
-told_is (Fill name row) e = absurd cc
-told_is (Save name) e = absurd cc
-told_is (Get name cycle version) e = refl
-told_is (Scan name class) e = absurd cc
-told_is Ls e = refl
-
-pub all_told : (cs : List Command) → list_all is_built cs ≡ true → list_all is_told cs ≡ true
-all_told [] all = refl
-all_told (c ∷ cs) all = let parts = and_parts (is_built c) (list_all is_built cs) all in and_from (is_told c) (list_all is_told cs) (told_is c parts.0) (all_told cs parts.1)

@@ -1,7 +1,7 @@
 -- A run's commands, one after the other.
 use Rattle.std.proofs.Common.{◌≡◌, inl, inr, ℕ, suc, ◌+◌, ◌<◌, ◌≤◌, true, false, List, [], ◌∷◌, ◌++◌, length, take, drop, get_or, Option, None, Some, Result, Ok, Err, subst, sym, refl, ap, ◌∙◌, arith, append_assoc}
 use Rattle.std.proofs.{lemmas.List.{append-nil, drop-drop, drop_all, get_or_default, take_all}, lemmas.Option.{same_Some, slice_get-get_or}, Math.Seq.{drop-cons}}
-use Rattle.std.specs.{List.{list_all}, Result.{OnOk}}
+use Rattle.std.specs.Result.{OnOk}
 use Rattle.rio_host.specs.{Host.{Any, Becomes, Elapses, IsLawful, View}, OnlyReads.{Grown}}
 use Rattle.rio_host.proofs.{Moments.{elapses_join}, PiecesLaws.{grown_join}}
 use Rattle.rio_chain.specs.{Chains.{HasChain}, Segments.{IsChain, Link}, Stops.{KeepsFront}}
@@ -12,27 +12,29 @@ use Rattle.rio_step.specs.{ReplyText.{text_of}, Runs.{first_mark, said_of, saved
 use Rattle.rio_step.specs.Costs.{HasFileRoom, cost_of}
 use Rattle.rio_state.specs.Left.{IsLeftAs}
 use Rattle.rio_session.specs.{Behind.{SaysPart}, Causes.{IsCloseCause, IsSaid, IsSessionCause, NoCountRose, SaysNothing}}
-use Rattle.rio_effect.specs.FileRuns.{FileRun, FileStep, IsRunOf, file_run, file_step, is_told, marks_in}
-use Rattle.rio_effect.proofs.FileRunLaws.{runs_are_told, runs_have_parts}
-use Rattle.rio_session.specs.FileSteps.{IsStepTold, RecordsBecome}
+use Rattle.rio_effect.specs.FileRuns.{FileRun, FileStep, file_run, file_step, marked_before}
+use Rattle.rio_effect.proofs.FileRunLaws.{runs_have_parts}
+use Rattle.rio_session.specs.FileSteps.{IsStepTold, RecordsBecome, file_records}
 use Rattle.rio_session.proofs.Follows.{follows_costs, follows_datime, follows_name, follows_opened}
 use Rattle.rio_session.specs.Session.{IsOpenAs, IsReady, LacksRoomIfFull, LeavesOpenAs, SessionState, StandsFor, Steps, Went, next_of, with_cost}
 use Rattle.rio_session.specs.declared.fault.SessionFault.{SessionFault, TheVariants.{HostFault, SayFault, NoMemory}}
 use Rattle.rio_session.proofs.{Opened.{keeps_own}, Spoken.{grows_none}}
-use Rattle.rootio.specs.{Headline.{IsStopOf, SaidFindRoom, ScriptRun, replies}, Script.{HasDone, session_run}, Writing.{LeavesOpen, StandsUnsaid}}
+use Rattle.rootio.specs.{Headline.{IsStopOf, SaidFindRoom, ScriptRun, replies}, Script.{HasDone, session_run}, Writing.{LeavesOpen, StandsUnsaid, file_run_from}}
 use Rattle.rootio.proofs.{Unclosed.{steps_open}, Untouched.{any_join, becomes_same, elapses_none}}
 use Rattle.rootio.proofs.Room.{CostsSo, all_find_room, costs_more, no_costs, room_at_fault}
 use Rattle.rootio.proofs.RunStops.{IsNext, behind, behind_next, prefix_at, replies_next, step_at, stop_between, stop_within}
 
 -- ---- marks
 
+-- what the commands behind the first k do to a file with these records
+abbrev pub run_left : ℕ → List Link → ScriptRun → ℕ → FileRun
+run_left datime links r k = file_run_from datime links (behind r k) (drop k r.commands)
+
 -- What is left of the marks belongs to what is left of the commands, on a file of these records, and what is left of the run ends with
 -- the last records.
 pub record MarksLeft (datime : ℕ) (links last : List Link) (r : ScriptRun) (k : ℕ) : Type 0 where
-  pub run : FileRun
-  pub told : file_run datime links (behind r k) (drop k r.commands) ≡ Some run
-  pub are : drop k r.marks ≡ run.marks
-  pub ends : run.links ≡ last
+  pub are : drop k r.marks ≡ (run_left datime links r k).marks
+  pub ends : (run_left datime links r k).records.links ≡ last
 
 commands_left : (r : ScriptRun) (k : ℕ) (c : Command) → IsNext r k c → drop k r.commands ≡ c ∷ drop (k + 1) r.commands
 commands_left r k c next =
@@ -40,54 +42,63 @@ commands_left r k c next =
     drop-cons r.commands k Ls next.within ∙ ap (λ x. x ∷ drop (suc k) r.commands) next.is ∙ ap (λ n. c ∷ drop n r.commands) e
 
 module _ (datime : ℕ) (links last : List Link) (r : ScriptRun) (k : ℕ) (c : Command) (left : MarksLeft datime links last r k) (next : IsNext r k c) where
-  pub parts : IsRunOf datime links (behind r k) c (drop (k + 1) r.commands) left.run
-  parts = runs_have_parts datime links (behind r k) c (drop (k + 1) r.commands) left.run
-      (ap (file_run datime links (behind r k)) (sym (commands_left r k c next)) ∙ left.told)
+  -- what the next command does to the file
+  abbrev next_on_file : FileStep
+  next_on_file = file_step datime (file_records links) (behind r k) c
 
-  marks_are : drop k r.marks ≡ parts.first.mark ∷ parts.later.marks
-  marks_are = left.are ∙ ap (λ (x : FileRun). x.marks) parts.run_is
+  -- and the commands behind it
+  abbrev others : FileRun
+  others = file_run datime next_on_file.records (step (behind r k) c next_on_file.mark).state (drop (k + 1) r.commands)
+
+  parts : run_left datime links r k ≡ marked_before next_on_file.mark others
+  parts =
+      ap (λ (commands : List Command). file_run_from datime links (behind r k) commands) (commands_left r k c next)
+      ∙ runs_have_parts datime (file_records links) (behind r k) c (drop (k + 1) r.commands)
+
+  marks_are : drop k r.marks ≡ next_on_file.mark ∷ others.marks
+  marks_are = left.are ∙ ap (λ (x : FileRun). x.marks) parts
 
   -- the next step is that of the file's records
-  pub step_is : step_at r k c ≡ step (behind r k) c parts.first.mark
+  pub step_is : step_at r k c ≡ step (behind r k) c next_on_file.mark
   step_is = ap (λ mark. step (behind r k) c mark) (ap first_mark marks_are)
 
-  pub marks_next : MarksLeft datime parts.first.links last r (k + 1)
-  marks_next = record {
-    run = parts.later;
-    told =
-        ap (λ (m : State). file_run datime parts.first.links m (drop (k + 1) r.commands)) (behind_next r k c next ∙ ap (λ (t : Stepped). t.state) step_is)
-        ∙ parts.later_is;
-    are = sym (drop-drop 1 k r.marks) ∙ ap (drop 1) marks_are;
-    ends = ap (λ (x : FileRun). x.links) (sym parts.run_is) ∙ left.ends;
-  }
-
-  -- the step that the session tells
-  pub first_is : (t : FileStep) → file_step datime links (behind r k) c ≡ Some t → parts.first ≡ t
-  first_is t told = same_Some parts.first t (sym parts.first_is ∙ told)
+  -- where nothing is put then, the others begin with the records behind it
+  pub marks_next : next_on_file.records ≡ file_records next_on_file.records.links → MarksLeft datime next_on_file.records.links last r (k + 1)
+  marks_next none =
+      let state : (step (behind r k) c next_on_file.mark).state ≡ behind r (k + 1) = ap (λ (t : Stepped). t.state) (sym step_is) ∙ sym (behind_next r k c next) in
+      let same : others ≡ run_left datime next_on_file.records.links r (k + 1) = λ i. file_run datime (none i) (state i) (drop (k + 1) r.commands) in
+      record {
+        are = sym (drop-drop 1 k r.marks) ∙ ap (drop 1) marks_are ∙ ap (λ (x : FileRun). x.marks) same;
+        ends = ap (λ (x : FileRun). x.records.links) (sym same) ∙ ap (λ (x : FileRun). x.records.links) (sym parts) ∙ left.ends;
+      }
 
 -- the records of a file, after a command
-pub links_after : (old new : View) (s s1 : SessionState) (m m1 : State) (c : Command) (text text1 : List ℕ) (stands : StandsFor old s m text) (later : StandsFor new s1 m1 text1) → RecordsBecome old new s s1 m c
-    → (t : FileStep) → file_step s.datime stands.state.links m c ≡ Some t → t.links ≡ later.state.links
-links_after old new s s1 m m1 c text text1 stands later become t told =
-    let b = become stands.file stands.state.links stands.holds stands.state.chain in
-    let same : b.0 ≡ t = same_Some b.0 t (sym b.1 ∙ told) in
-    let file : b.2 ≡ later.file = same_Some b.2 later.file (sym b.3 ∙ later.holds) in
-    let chain : IsChain t.links later.file = subst (λ (x : FileStep × List ℕ). IsChain x.0.links x.1) (λ i. (same i, file i)) b.4.chain in
-    chain_one later.file t.links later.state.links chain later.state.chain.chain
+links_after : (old new : View) (s s1 : SessionState) (m m1 : State) (c : Command) (text text1 : List ℕ) (stands : StandsFor old s m text) (later : StandsFor new s1 m1 text1) → RecordsBecome old new s s1 m c
+    → (file_step s.datime (file_records stands.state.links) m c).records.links ≡ later.state.links
+links_after old new s s1 m m1 c text text1 stands later become =
+    let has = become stands.file stands.state.links stands.holds stands.state.chain in
+    let file : has.now ≡ later.file = same_Some has.now later.file (sym has.holds ∙ later.holds) in
+    let links = (file_step s.datime (file_records stands.state.links) m c).records.links in
+    chain_one later.file links later.state.links (subst (IsChain links) file has.chain.chain) later.state.chain.chain
+
+-- none of them is put then
+none_after : (old new : View) (s s1 : SessionState) (m : State) (c : Command) (text : List ℕ) (stands : StandsFor old s m text) → RecordsBecome old new s s1 m c
+    → let t = file_step s.datime (file_records stands.state.links) m c in t.records ≡ file_records t.records.links
+none_after old new s s1 m c text stands become = (become stands.file stands.state.links stands.holds stands.state.chain).records_are
 
 -- and the front of the file
 front_after : (old new : View) (s s1 : SessionState) (m m1 : State) (c : Command) (text text1 front : List ℕ) (stands : StandsFor old s m text) (later : StandsFor new s1 m1 text1) → RecordsBecome old new s s1 m c
     → KeepsFront front stands.file → KeepsFront front later.file
 front_after old new s s1 m m1 c text text1 front stands later become kept =
-    let b = become stands.file stands.state.links stands.holds stands.state.chain in
-    let file : b.2 ≡ later.file = same_Some b.2 later.file (sym b.3 ∙ later.holds) in
-    subst (KeepsFront front) file (λ i x low at. b.5 i x low (kept i x low at))
+    let has = become stands.file stands.state.links stands.holds stands.state.chain in
+    let file : has.now ≡ later.file = same_Some has.now later.file (sym has.holds ∙ later.holds) in
+    subst (KeepsFront front) file (λ i x low at. has.front i x low (kept i x low at))
 
 -- where no command is left the records are the last ones
-none_left : (datime : ℕ) (links last : List Link) (m : State) (run : FileRun) (commands : List Command) → commands ≡ [] → file_run datime links m commands ≡ Some run → run.links ≡ last → links ≡ last
+none_left : (datime : ℕ) (links last : List Link) (m : State) (commands : List Command) → commands ≡ [] → (file_run_from datime links m commands).records.links ≡ last → links ≡ last
 unfolding file_run
-none_left datime links last m run [] none told ends = let same : ◌≡◌ {A = FileRun} (record { marks = []; links = links }) run = same_Some _ run told in ap (λ (x : FileRun). x.links) same ∙ ends
-none_left datime links last m run (c ∷ cs) none told ends = absurd cc
+none_left datime links last m [] none ends = ends
+none_left datime links last m (c ∷ cs) none ends = absurd cc
 
 -- ---- one command
 
@@ -107,7 +118,7 @@ module _ (r : ScriptRun) (before : List ℕ) (k : ℕ) (c : Command) (next : IsN
   done = next_of s (behind r k) c
 
   done_is : step_at r k c ≡ done
-  done_is = step_is s.datime links last r k c left next ∙ ap (λ (t : FileStep). step (behind r k) c t.mark) (first_is s.datime links last r k c left next told.0 told.1) ∙ told.2
+  done_is = step_is s.datime links last r k c left next ∙ told
 
   -- what a stop leaves within the command
   pub stops_within : (file image said : List ℕ) → Steps (behind r k) done (before ++ replies r k) image said → IsStopOf r file before image said
@@ -133,15 +144,17 @@ module _ (r : ScriptRun) (before : List ℕ) (k : ℕ) (c : Command) (next : IsN
       ∙ ap (λ l. before ++ l) (sym (replies_next r k c next)) in
       let later : StandsFor new s1 (behind r (k + 1)) (before ++ replies r (k + 1)) =
       subst (λ l. StandsFor new s1 (behind r (k + 1)) l) text (subst (λ m. StandsFor new s1 m ((before ++ replies r k) ++ text_of done.reply)) state went.stands) in
-      let first_there = parts s.datime links last r k c left next in
-      let same_links : first_there.first.links ≡ later.state.links =
-      links_after v new s s1 (behind r k) (behind r (k + 1)) c (before ++ replies r k) (before ++ replies r (k + 1)) at later become first_there.first
-      (ap (λ (x : List Link). file_step s.datime x (behind r k) c) links_are ∙ first_there.first_is) in
+      let step_on : List Link → FileStep = λ x. file_step s.datime (file_records x) (behind r k) c in
+      let same_links : (step_on links).records.links ≡ later.state.links =
+      ap (λ (x : List Link). (step_on x).records.links) (sym links_are)
+      ∙ links_after v new s s1 (behind r k) (behind r (k + 1)) c (before ++ replies r k) (before ++ replies r (k + 1)) at later become in
+      let none : (step_on links).records ≡ file_records (step_on links).records.links =
+      subst (λ (x : List Link). (step_on x).records ≡ file_records (step_on x).records.links) links_are (none_after v new s s1 (behind r k) c (before ++ replies r k) at become) in
       record {
         stands = later;
         name = follows_name s s1 (behind r k) c went.follows ∙ named;
         datime = follows_datime s s1 (behind r k) c went.follows ∙ soon;
-        marks = subst (λ (x : ℕ × List Link). MarksLeft x.0 x.1 last r (k + 1)) (λ i. (sym (follows_datime s s1 (behind r k) c went.follows) i, same_links i)) (marks_next s.datime links last r k c left next);
+        marks = subst (λ (x : ℕ × List Link). MarksLeft x.0 x.1 last r (k + 1)) (λ i. (sym (follows_datime s s1 (behind r k) c went.follows) i, same_links i)) (marks_next s.datime links last r k c left next none);
         kept = front_after v new s s1 (behind r k) (behind r (k + 1)) c (before ++ replies r k) (before ++ replies r (k + 1)) front at later become kept;
         time = λ file. elapses_join (Steps (behind r k) done (before ++ replies r k)) (time file) went.time (λ i t steps. stops_within file i t steps);
         costs = costs_more first s s1 r k c next costs outcome (follows_opened s s1 (behind r k) c went.follows) (follows_costs s s1 (behind r k) c went.follows)
@@ -167,13 +180,9 @@ module _ (r : ScriptRun) (before : List ℕ) (k : ℕ) (c : Command) (next : IsN
 
 -- ---- all of them
 
--- the records after a run that is told
-pub links_in : Option FileRun → List Link
-links_in (Some r) = r.links
-links_in None = []
-
-pub last_of : SessionState → List Link → State → List Command → List Link
-last_of first links m commands = links_in (file_run first.datime links m commands)
+-- the records after the run
+abbrev pub last_of : SessionState → List Link → State → List Command → List Link
+last_of first links m commands = (file_run_from first.datime links m commands).records.links
 
 -- The first k commands are done, and nothing failed.
 pub record Doing (start v : View) (first s : SessionState) (commands : List Command) (k : ℕ) : Type 0 where
@@ -183,13 +192,10 @@ pub record Doing (start v : View) (first s : SessionState) (commands : List Comm
   pub said : Becomes Grown start.said v.said
   pub none : NoCountRose start v
   pub sofar : (m : State) (text : List ℕ) (stands : StandsFor start first m text) → Sofar start v (last_of first stands.state.links m commands) stands.file first s (session_run first stands.state.links m commands) text k
-  pub all : list_all is_told commands ≡ true
 
-start_marks : (first : SessionState) (links : List Link) (m : State) (commands : List Command) → list_all is_told commands ≡ true → MarksLeft first.datime links (last_of first links m commands) (session_run first links m commands) 0
-unfolding state_after last_of links_in
-start_marks first links m commands told =
-    let r = runs_are_told first.datime links m commands told in
-    record { run = r.0; told = r.1; are = ap marks_in r.1; ends = ap links_in (sym r.1) }
+start_marks : (first : SessionState) (links : List Link) (m : State) (commands : List Command) → MarksLeft first.datime links (last_of first links m commands) (session_run first links m commands) 0
+unfolding state_after
+start_marks first links m commands = record { are = refl; ends = refl }
 
 start_stands : (v : View) (first : SessionState) (links : List Link) (m : State) (commands : List Command) (text : List ℕ) → StandsFor v first m text
     → let r = session_run first links m commands in StandsFor v first (behind r 0) (text ++ replies r 0)
@@ -202,14 +208,13 @@ same_links v s m m1 text text1 a b =
     let file : a.file ≡ b.file = same_Some a.file b.file (sym a.holds ∙ b.holds) in
     chain_one b.file a.state.links b.state.links (subst (IsChain a.state.links) file a.state.chain.chain) b.state.chain.chain
 
-pub nothing_yet : (v : View) (first : SessionState) (commands : List Command) → list_all is_told commands ≡ true → IsReady v first → first.failed ≡ false → Doing v v first first commands 0
-nothing_yet v first commands all ready fresh = record {
+pub nothing_yet : (v : View) (first : SessionState) (commands : List Command) → IsReady v first → first.failed ≡ false → Doing v v first first commands 0
+nothing_yet v first commands ready fresh = record {
   ready = ready;
   fresh = fresh;
   told = becomes_same v.holds;
   said = grows_none v.said v.said refl;
   none = (refl, refl);
-  all = all;
   sofar = λ m text stands.
       let r = session_run first stands.state.links m commands in
       let here = start_stands v first stands.state.links m commands text stands in
@@ -217,7 +222,7 @@ nothing_yet v first commands all ready fresh = record {
         stands = here;
         name = refl;
         datime = refl;
-        marks = subst (λ (links : List Link). MarksLeft first.datime links (last_of first stands.state.links m commands) r 0) (same_links v first m (behind r 0) text (text ++ replies r 0) stands here) (start_marks first stands.state.links m commands all);
+        marks = subst (λ (links : List Link). MarksLeft first.datime links (last_of first stands.state.links m commands) r 0) (same_links v first m (behind r 0) text (text ++ replies r 0) stands here) (start_marks first stands.state.links m commands);
         kept = subst (KeepsFront stands.file) (same_Some stands.file here.file (sym stands.holds ∙ here.holds)) (keeps_own stands.file);
         time = λ file. elapses_none v (IsStopOf r file text);
         costs = no_costs first r;
@@ -239,7 +244,6 @@ module _ (start v new : View) (first s s1 : SessionState) (commands : List Comma
     told = any_join start.holds v.holds new.holds doing.told told;
     said = grown_join start.said v.said new.said doing.said said;
     none = (none.0 ∙ doing.none.0, none.1 ∙ doing.none.1);
-    all = doing.all;
     sofar = λ m text stands.
         let r = session_run first stands.state.links m commands in
         let so = doing.sofar m text stands in
@@ -296,24 +300,16 @@ leaves_open start v new first s commands k c doing law stopped m text stands =
     let so = doing.sofar m text stands in
     steps_open v new s (behind r k) (text ++ replies r k) doing.ready so.stands law (next_of s (behind r k) c) (stopped (behind r k) (text ++ replies r k) so.stands)
 
-last_is : (first : SessionState) (links : List Link) (m : State) (commands : List Command) (run : FileRun) → file_run first.datime links m commands ≡ Some run → last_of first links m commands ≡ run.links
-unfolding last_of links_in
-last_is first links m commands run is = ap links_in is
-
 pub all_done : (start v : View) (first s : SessionState) (commands : List Command) (k : ℕ) → length commands ≤ k → Doing start v first s commands k
     → (m : State) (text : List ℕ) (stands : StandsFor start first m text) → HasDone (session_run first stands.state.links m commands) stands.state.links stands.file first s text v
 all_done start v first s commands k all doing m text stands =
     let r = session_run first stands.state.links m commands in
     let so = doing.sofar m text stands in
-    let told = runs_are_told first.datime stands.state.links m commands doing.all in
     let none : drop k commands ≡ [] = drop_all k commands all in
-    let ends : so.stands.state.links ≡ last_of first stands.state.links m commands =
-    none_left s.datime so.stands.state.links (last_of first stands.state.links m commands) (behind r k) so.marks.run (drop k commands) none so.marks.told so.marks.ends in
-    let same : so.stands.state.links ≡ told.0.links = ends ∙ last_is first stands.state.links m commands told.0 told.1 in
+    let same : so.stands.state.links ≡ last_of first stands.state.links m commands =
+    none_left s.datime so.stands.state.links (last_of first stands.state.links m commands) (behind r k) (drop k commands) none so.marks.ends in
     record {
       records = record {
-        run = told.0;
-        run_is = told.1;
         now = so.stands.file;
         holds = so.stands.holds;
         chain = subst (λ (l : List Link). HasChain l s.segments so.stands.file) same so.stands.state.chain;

@@ -16,7 +16,6 @@ use Rattle.rio_state.specs.{Closing.{name_in}, KeyedRecords.{keyed_records}, Lef
 use Rattle.rio_state.proofs.OneReason.{reason_one}
 use Rattle.rio_create.specs.NewFile.{first_links, new_file}
 use Rattle.rio_recover.specs.Cleaning.{cleaned}
-use Rattle.rio_effect.specs.FileRuns.{file_run}
 use Rattle.rio_session.specs.{Closes.{IsWellClosed}, Causes.{IsSessionCause, NoCountRose}}
 use Rattle.rio_session.specs.Opening.{BeginsOn, IsBegun, IsNotOpened, IsOpenCause, LeavesFileOrUnclosed, OpensMade, OpensWith, SparesFile, TellsWhyNot, opening_length}
 use Rattle.rio_session.specs.Session.{SessionState, StandsFor}
@@ -25,7 +24,7 @@ use Rattle.rio_session.specs.declared.fault.SessionFault.{SessionFault, TheVaria
 use Rattle.rio_session.proofs.Spoken.{front_none, grows_none}
 use Rattle.rootio.specs.{Headline.{IsRunDone, IsStopOf, SaidFindRoom, ScriptRun, all_texts}, Reading.{RefusesBroken, TellsFirstFault}}
 use Rattle.rootio.specs.Script.{HasClosed, IsFileCause, RunsWork, StaysOpenBy, status_of_open, status_of_session}
-use Rattle.rootio.specs.Writing.{Beginning, BeginsRun, EndsUnclosed, EndsUnsaid, IsOpenHeader, RefusesFile, RefusesReadOnly, TellsFirstReason, run_of_work, target_of}
+use Rattle.rootio.specs.Writing.{Beginning, BeginsRun, EndsUnclosed, EndsUnsaid, IsOpenHeader, RefusesFile, RefusesReadOnly, TellsFirstReason, file_run_from, file_run_of, run_of_work, target_of}
 use Rattle.rootio.specs.{declared.status.Status.TheVariants.{Done, BadFile, NoMemory, ReadOnly}, declared.words.Form.TheVariants.{Writes}}
 use Rattle.rootio.specs.declared.words.Work.{Work}
 use Rattle.rootio.proofs.{Room.{silent_room}, SaidFronts.{said_front}, Scripts.{OpensAs, stop_opening}, Unclosed.{ends_unclosed}}
@@ -212,6 +211,8 @@ closed_of_front name datime later front links file keeps w = record {
   chain = w.chain;
   head = w.head;
   keys = w.keys;
+  trees = w.trees;
+  trees_are = w.trees_are;
   info = w.info;
   named = w.named;
   owned = w.owned;
@@ -279,6 +280,13 @@ module _ (work : Work) (input : List ℕ) (v0 v1 v2 : View) (s : SessionState) (
     closed_well : status_of_session r ≡ Done → HasClosed (run st.state.links b.state) st.state.links st.file s b.text v2
     closed_well ended = ended_well r _ done ended b.state b.text st
 
+    -- the records that it leaves are those of the run of the words
+    abbrev records_there : List Link
+    records_there = let from = run st.state.links b.state in (file_run_from s.datime st.state.links from.start from.commands).records.links
+
+    records_are : records_there ≡ (file_run_of work b).records.links
+    records_are = λ i. (file_run_from (begun.datime_is i) (links_are i) (its_run i).start (its_run i).commands).records.links
+
     opened_is : s.opened ≡ opening_length b.file
     opened_is = (found work v0 v1 s stands on b begins).opened
 
@@ -310,15 +318,12 @@ module _ (work : Work) (input : List ℕ) (v0 v1 v2 : View) (s : SessionState) (
         let closed = closed_well b begins is ended in
         let header = header_there work v0 v1 s stands on b begins in
         record {
-          run = closed.run;
-          run_is = sym (λ i. file_run (begun.datime_is i) (links_are b begins is i) (its_run b begins is i).start (its_run b begins is i).commands) ∙ closed.run_is;
-          left = record {
-            header = header.0;
-            header_is = header.1;
-            left = λ image told left.
-                subst (λ (x : List ℕ × ℕ). IsWellClosed x.0 x.1 header.0 closed.run.links image) (λ i. (name_there work v0 v1 s stands on b begins i, begun.datime_is i))
-                (closed_of_front s.name s.datime (st b begins is).file header.0 closed.run.links image header.2 (closed.written image told left));
-          };
+          header = header.0;
+          header_is = header.1;
+          left = λ image told left.
+              subst (λ (x : (List ℕ × ℕ) × List Link). IsWellClosed x.0.0 x.0.1 header.0 x.1 image)
+              (λ i. ((name_there work v0 v1 s stands on b begins i, begun.datime_is i), records_are b begins is i))
+              (closed_of_front s.name s.datime (st b begins is).file header.0 (records_there b begins is) image header.2 (closed.written image told left));
         };
     unclosed = λ b begins is.
         subst (λ (x : ScriptRun). EndsUnclosed work x b.file b.text v0 v2 (status_of_session r)) (its_run b begins is)

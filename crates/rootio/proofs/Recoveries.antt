@@ -9,13 +9,13 @@ use Rattle.rio_machine.specs.{State.{State}, declared.command.Command.{Command}}
 use Rattle.rio_step.specs.Runs.{closed_of, said_of, saved_of, state_after, states_of_run}
 use Rattle.rio_state.specs.{DirectoryKeys.{AreKeysOf}, KeyedRecords.{keyed_records}, Left.{IsLeftAs}, Reads.{ReadsAsState, ReadsClosed}}
 use Rattle.std.specs.List.{slice_get}
-use Rattle.rio_effect.specs.FileRuns.{file_run, marks_in}
+use Rattle.rio_effect.specs.FileRuns.{file_run}
 use Rattle.rio_session.specs.{Causes.{IsCloseCause, IsSessionCause, NoCountRose}, Closes.{ClosesFile, IsWellClosed}, Opening.{IsBegun}}
 use Rattle.rio_session.specs.Session.{ClosesAs, IsReady, SessionState, StandsFor}
 use Rattle.rio_session.specs.declared.fault.SessionFault.{SessionFault, TheVariants.{HostFault, SayFault, NoMemory}}
 use Rattle.rio_session.proofs.{CloseStates.{holds_closed_file}, Opened.{keeps_own, reads_open}, Spoken.{front_part, grows_none, grows_whole}}
 use Rattle.rootio.specs.{Headline.{AllFindRoom, IsStopOf, SaidFindRoom, ScriptRun, all_replies, all_texts, end_state}, Script.{ClosesAndSays, listing_run}}
-use Rattle.rootio.specs.{Target.{TargetFile}, Writing.{Beginning, BeginsRun, StandsClosed, run_of_work}, declared.words.Work.TheVariants.{Recover}}
+use Rattle.rootio.specs.{Target.{TargetFile}, Writing.{Beginning, BeginsRun, StandsClosed, file_run_from, run_of_work}, declared.words.Work.TheVariants.{Recover}}
 use Rattle.rootio.proofs.{OrderedKeys.{keys_one}, RunStops.{stop_closing}, Unclosed.{close_open, stands_open}, Untouched.{becomes_same, elapses_none}}
 
 abbrev some_text : List ℕ → Option (List ℕ)
@@ -40,7 +40,8 @@ module _ (s : SessionState) (lines : List ℕ) (links : List Link) (m : State) w
   unfolding state_after
   end_is = refl
 
-  records_are : file_run s.datime links m [] ≡ Some (record { marks = []; links = links })
+  -- it leaves the records as they are
+  records_are : (file_run_from s.datime links m []).records.links ≡ links
   unfolding file_run
   records_are = refl
 
@@ -173,13 +174,12 @@ module _ (v1 v2 : View) (s : SessionState) (lines : List ℕ) (ready : IsReady v
       stops = saying;
       done = λ m text stands. record {
         quiet = says_quiet lines law3 quiet speaks holds;
-        run = record { marks = []; links = stands.state.links };
-        run_is = records_are s lines stands.state.links m;
         said =
             let grown = becomes_some (Longer lines) v2.said v3.said text (same ∙ stands.said) longer in
             grown.1 ∙ ap some_text (grown.2 ∙ ap (λ (l : List ℕ). text ++ l) (sym (texts_are s lines stands.state.links m)));
         left = ends_closed m text stands;
-        written = well_closed m text stands;
+        written = λ image told left.
+            subst (λ (x : List Link). IsWellClosed s.name s.datime stands.file x image) (sym (records_are s lines stands.state.links m)) (well_closed m text stands image told left);
         room = λ costs room. finds_room s lines stands.state.links m;
       };
       unclosed = λ m text stands. tt;
@@ -222,4 +222,4 @@ pub its_listing : (target : TargetFile) (v0 v1 : View) (s : SessionState) → Is
 its_listing target v0 v1 s begun b begins is st links =
     let heads : s.heads ≡ begins.listing.0 = keys_one (keyed_records b.links) s.heads begins.listing.0 (subst (λ (l : List Link). AreKeysOf (keyed_records l) s.heads) links st.state.keys) begins.listing.1 in
     let lines : key_lines s.heads ≡ b.listing = ap key_lines heads ∙ sym begins.listing.2 in
-    λ i. record { start = b.state; commands = []; marks = marks_in (file_run (begun.datime_is i) (links i) b.state []); listing = lines i }
+    λ i. record { start = b.state; commands = []; marks = (file_run_from (begun.datime_is i) (links i) b.state []).marks; listing = lines i }

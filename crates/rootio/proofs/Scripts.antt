@@ -1,42 +1,65 @@
 -- A script's run, and what a stop leaves while its file is opened.
 use Rattle.std.proofs.Common.{◌≡◌, ℕ, Bool, true, false, List, [], ◌++◌, Option, Some, None, MatchBool, option_map, subst, sym, refl, ap, ◌∙◌, arith}
 use Rattle.std.proofs.lemmas.List.{append-nil}
-use Rattle.std.specs.{FinMap.{get, get-empty}, Option.{option_and_then}}
-use Rattle.rio_num.specs.Word.{name_order}
+use Rattle.std.specs.{Prelude.{option_and_then}, FinMap.{get, get-empty}, List.{find}, Str.{bytes_eq}}
+use Rattle.rio_num.specs.{Reading.{some_if}, Word.{name_order}}
 use Rattle.rio_dir.specs.Unborn.{is_unborn}
 use Rattle.rio_machine.proofs.OrderLaws.{same_state}
 use Rattle.rio_host.specs.Host.{View}
 use Rattle.rio_chain.specs.Segments.{Link}
-use Rattle.rio_machine.specs.{State.{State, empty_state}, declared.command.Command.{Command}}
+use Rattle.rio_tree.specs.declared.head.TreeHead.{TreeHead}
+use Rattle.rio_machine.specs.{State.{Row, State, empty_state}, declared.command.Command.{Command}}
 use Rattle.rio_cmd.specs.Built.{built_script}
-use Rattle.rio_effect.specs.FileRuns.{file_run, marks_in}
 use Rattle.rio_session.specs.{Opening.{IsBegun}, Session.{SessionState, StandsFor}}
 use Rattle.rio_step.proofs.{ClosedLaws.{saved_keeps_the_rest}, RunLaws.{runs_begin_alike}}
 use Rattle.rio_step.specs.Runs.{said_of, saved_of, saved_tree, state_after}
-use Rattle.rio_state.specs.{Contents.{no_tree_is_read}, Left.{ReadsClosedUnlessOpen}, Reads.{ReadsAsMade, ReadsAsState}}
-use Rattle.rootio.specs.{Headline.{HoldsPrefix, IsStopOf, ScriptRun, replies}, Script.{session_run}, Target.{TargetFile}, Writing.{Beginning, BeginsRun, run_of_work}}
+use Rattle.rio_state.specs.{KeyedRecords.{KeyedRecord, record_at}, Left.{ReadsClosedUnlessOpen}, Reads.{ReadsAsMade, ReadsAsState}}
+use Rattle.rio_state.specs.Trees.{TreesBeside, all_places_named, are_named_once, basket_places, header_in, records_before, saved_rows, saved_tree as read_tree, tree_by, tree_of, tree_under}
+use Rattle.rootio.specs.{Headline.{HoldsPrefix, IsStopOf, ScriptRun, replies}, Script.{session_run}, Target.{TargetFile}, Writing.{Beginning, BeginsRun, file_run_from, run_of_work}}
 use Rattle.rootio.specs.declared.words.Work.TheVariants.{Run}
 use Rattle.rootio.proofs.RunStops.{behind, stop_between}
 
 -- ---- the state at the start has no pending rows
 
-and_then_none : {A B : Type 0} (f : A → Option B) → ((x : A) → f x ≡ None) → (o : Option A) → option_and_then f o ≡ None
-and_then_none f none None = refl
-and_then_none f none (Some x) = none x
+-- no row of a tree that is read is pending
+none_pending : (beside : TreesBeside) (r : KeyedRecord) → option_map saved_tree (tree_of beside r) ≡ tree_of beside r
+unfolding tree_of tree_by
+none_pending beside r = by_head (header_in beside.classes r)
+  where
+    before : List ℕ
+    before = all_places_named beside.classes (records_before beside.headers r)
 
--- no file has trees yet
-trees_by : (file : List ℕ) (m : State) (name : List ℕ) (unborn : Bool) → MatchBool unborn (m ≡ empty_state) (ReadsAsMade file m) → get m.trees name ≡ None
-trees_by file m name true is = ap (λ (n : State). get n.trees name) is ∙ get-empty name_order name
-trees_by file m name false made = made.records.stand.trees name ∙ and_then_none _ (λ r. no_tree_is_read _ _ _ r) _
+    by_rows : (head : TreeHead) (rows : Option (List Row)) (once : Bool)
+        → option_map saved_tree (option_and_then (λ rs. some_if once (read_tree r head rs)) rows) ≡ option_and_then (λ rs. some_if once (read_tree r head rs)) rows
+    by_rows head None once = refl
+    by_rows head (Some rs) true = refl
+    by_rows head (Some rs) false = refl
 
-no_trees : (file : List ℕ) (m : State) → ReadsAsState file m → (name : List ℕ) → get m.trees name ≡ None
-no_trees file m reads name = trees_by file m name (is_unborn file) reads
+    by_head : (o : Option TreeHead) → option_map saved_tree (option_and_then (tree_by beside.classes.declared (record_at beside.records) before r) o)
+        ≡ option_and_then (tree_by beside.classes.declared (record_at beside.records) before r) o
+    by_head None = refl
+    by_head (Some head) = by_rows head (saved_rows beside.classes.declared (record_at beside.records) head) (are_named_once before (basket_places head))
+
+none_under : (beside : TreesBeside) (name : List ℕ) → option_map saved_tree (tree_under beside name) ≡ tree_under beside name
+none_under beside name = by (find (λ r. bytes_eq r.head.name name) beside.headers)
+  where
+    by : (o : Option KeyedRecord) → option_map saved_tree (option_and_then (tree_of beside) o) ≡ option_and_then (tree_of beside) o
+    by None = refl
+    by (Some r) = none_pending beside r
+
+trees_by : (file : List ℕ) (m : State) (name : List ℕ) (unborn : Bool) → MatchBool unborn (m ≡ empty_state) (ReadsAsMade file m)
+    → option_map saved_tree (get m.trees name) ≡ get m.trees name
+trees_by file m name true is =
+    let none = ap (λ (n : State). get n.trees name) is ∙ get-empty name_order name in
+    ap (option_map saved_tree) none ∙ sym none
+trees_by file m name false made =
+    let read = made.records.stand.trees name in
+    ap (option_map saved_tree) read ∙ none_under _ name ∙ sym read
 
 pub saved_start : (file : List ℕ) (m : State) → ReadsAsState file m → saved_of m ≡ m
 unfolding saved_of
 saved_start file m reads =
-    same_state (saved_of m) m refl (λ item. refl)
-    (λ name. let none = no_trees file m reads name in saved_keeps_the_rest m name ∙ ap (option_map saved_tree) none ∙ sym none)
+    same_state (saved_of m) m refl (λ item. refl) (λ name. saved_keeps_the_rest m name ∙ trees_by file m name (is_unborn file) reads)
 
 -- ---- while the file is opened
 
@@ -75,4 +98,4 @@ pub its_run : (target : TargetFile) (script : List ℕ) (v0 v1 : View) (s : Sess
     → run_there s commands st.state.links b.state ≡ run_of_work (Run target) b
 its_run target script v0 v1 s commands begun are b begins is st links =
     let all : commands ≡ built_script b.input = are ∙ ap built_script (sym is) in
-    λ i. record { start = b.state; commands = all i; marks = marks_in (file_run (begun.datime_is i) (links i) b.state (all i)); listing = sym begins.listing i }
+    λ i. record { start = b.state; commands = all i; marks = (file_run_from (begun.datime_is i) (links i) b.state (all i)).marks; listing = sym begins.listing i }

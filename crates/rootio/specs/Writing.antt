@@ -10,9 +10,9 @@ use Rattle.rio_state.specs.{Closing.{name_in}, DirectoryKeys.{AreKeysOf}, KeyedR
 use Rattle.rio_step.specs.{Costs.{HasFileRoom}, ReplyText.{text_of}, Runs.{saved_of}}
 use Rattle.rio_chain.specs.Segments.{Link}
 use Rattle.rio_close.specs.EndWord.{SaysEnd}
-use Rattle.rio_effect.specs.FileRuns.{FileRun, file_run, marks_in}
+use Rattle.rio_effect.specs.FileRuns.{FileRun, file_run}
 use Rattle.rio_create.specs.NewFile.{new_file}
-use Rattle.rio_session.specs.{Behind.{SaysPart}, Closes.{IsWellClosed}, Opening.{LeavesFileOrUnclosed, OpensWith, SparesFile, opening_length}}
+use Rattle.rio_session.specs.{Behind.{SaysPart}, Closes.{IsWellClosed}, FileSteps.{file_records}, Opening.{LeavesFileOrUnclosed, OpensWith, SparesFile, opening_length}}
 use Rattle.rootio.specs.{Headline.{IsRunDone, IsStopOf, SaidFindRoom, ScriptRun, all_replies, all_texts, end_state, replies, reply_at, states}, Input.{IsPastInput}}
 use Rattle.rootio.specs.{Reading.{takes_script}, Target.{TargetFile}}
 use Rattle.rootio.specs.declared.status.Status.{Status, TheVariants.{Done, Usage, BadFile, DiskFault, InputFault, NoMemory, InputTooLong, ReadOnly, SayFault}}
@@ -146,13 +146,17 @@ pub record Beginning : Type 0 where
   pub state : State
   pub listing : List ℕ
 
--- what the commands do to the file
-abbrev pub file_run_of : Work → Beginning → Option FileRun
-file_run_of work b = file_run (target_of work).datime b.links b.state (commands_of work b.input)
+-- what commands do at this time to a file that has just these records
+abbrev pub file_run_from : ℕ → List Link → State → List Command → FileRun
+file_run_from datime links m commands = file_run datime (file_records links) m commands
+
+-- and what those of a verb do
+abbrev pub file_run_of : Work → Beginning → FileRun
+file_run_of work b = file_run_from (target_of work).datime b.links b.state (commands_of work b.input)
 
 abbrev pub run_of_work : Work → Beginning → ScriptRun
 run_of_work work b =
-    record { start = b.state; commands = commands_of work b.input; marks = marks_in (file_run_of work b); listing = b.listing }
+    record { start = b.state; commands = commands_of work b.input; marks = (file_run_of work b).marks; listing = b.listing }
 
 -- the first 100 bytes of the open file are those of this one: a new file, or the file of before with the mark of an open file
 abbrev pub IsOpenHeader : TargetFile → List ℕ → List ℕ → Type 0
@@ -167,10 +171,8 @@ pub record LeavesClosed (work : Work) (b : Beginning) (links : List Link) (v : V
       → IsWellClosed (name_in (keyed_records b.links)) (target_of work).datime header links image
 
 -- They are the records of the run, each at its place and with its bytes.
-pub record LeavesRun (work : Work) (b : Beginning) (new : View) : Type 0 where
-  pub run : FileRun
-  pub run_is : file_run_of work b ≡ Some run
-  pub left : LeavesClosed work b run.links new
+abbrev pub LeavesRun : Work → Beginning → View → Type 0
+LeavesRun work b new = LeavesClosed work b (file_run_of work b).records.links new
 
 -- nothing was written and no call looked at the file
 abbrev pub IsUntouched : View → View → Type 0

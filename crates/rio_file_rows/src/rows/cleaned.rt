@@ -131,7 +131,7 @@ pub(super) fn set_word(bytes: &mut Bytes, place: usize, word: u32) {
 }
 
 // Appends the record, whose key gets its place.
-fn put_record(record: &[u8], into: &mut Bytes) -> Result<(), NoMemory> {
+pub(super) fn put_record(record: &[u8], into: &mut Bytes) -> Result<(), NoMemory> {
     let place = into.len();
     into.put(record)?;
     if place < 10_000 {
@@ -196,7 +196,7 @@ fn have_lengths(segments: &[Segment], wanted: &[i64]) -> bool {
     segments.len() == wanted.len()
 }
 
-fn is_walked(alloc: Global, image: Bytes, wanted: &[i64]) -> bool {
+pub(super) fn is_walked(alloc: Global, image: Bytes, wanted: &[i64]) -> bool {
     let mut host = MemHost::new(alloc, image, Numbers::new(alloc));
     match walk(alloc, &mut host) {
         Ok(segments) => have_lengths(segments.as_slice(), wanted),
@@ -205,7 +205,7 @@ fn is_walked(alloc: Global, image: Bytes, wanted: &[i64]) -> bool {
 }
 
 // Whether it is opened by so many writes, and only these words are others then.
-fn opens_to(
+pub(super) fn opens_to(
     alloc: Global,
     before: Bytes,
     writes: usize,
@@ -287,7 +287,7 @@ fn keeps(alloc: Global, before: &Bytes, place: u32, length: u32) -> Result<bool,
 }
 
 // The length of the class list with these data. None has more than 100,000 bytes.
-fn list_length(data: &[u8]) -> u32 {
+pub(super) fn list_length(data: &[u8]) -> u32 {
     data.len().min(100_000) as u32 + 46
 }
 

@@ -1,8 +1,5 @@
-use Rattle.rio_effect.proofs.{FileChanges.{segments_follow}, FileRunLaws.{runs_are_told, runs_have_parts}}
+use Rattle.rio_effect.proofs.{FileChanges.{segments_follow}, FileRunLaws.{runs_have_parts}}
 use Rattle.rio_effect.proofs.laws.runs_are_told.Goals as goal
-
-pub returns-clause-told : goal.returns-clause-told
-returns-clause-told c = runs_are_told
 
 pub returns-clause-parts : goal.returns-clause-parts
 returns-clause-parts c = runs_have_parts

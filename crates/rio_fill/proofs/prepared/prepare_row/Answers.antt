@@ -5,9 +5,8 @@ use Rattle.rio_format.specs.{Bodies.{Counters}, Counts.{SaysAsFirst}}
 use Rattle.rio_machine.specs.Rows.{columns_bytes, columns_fit, leaf_numbers_after, shape_columns}
 use Rattle.rio_value.specs.declared.value.Value.{Value}
 use Rattle.rio_entry.specs.Leaves.{numbers_after}
-use Rattle.rio_entry.proofs.Counting.{left_begins}
+use Rattle.rio_entry.proofs.{Counting.{left_begins}, FitsBehind.{drop_min, take_min}}
 use Rattle.rio_fill.specs.{Fill.{BranchFill, defs_of}, Parts.{with_part}}
-use Rattle.rio_fill.proofs.Lists.{drop_min, take_min}
 use Rattle.rio_fill.proofs.Walked.{Walked, gives_itself, shape_numbers, shape_stated, walk_breaks, walk_ends, walk_on}
 use Rattle.rio_fill.proofs.prepared.prepare_row.Goals as goal
 

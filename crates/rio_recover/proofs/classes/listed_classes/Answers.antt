@@ -13,10 +13,10 @@ returns-in-Some c =
     let class : head.class ≡ codes "TList" = search rules in
     let described : described_in r ≡ Ok c.in-Ok.classes = (λ i. class_list_at (sym c.from.ensures i) (sym c.data_of.ensures i)) ∙ c.in-Ok.ensures.exact in
     let list : described_in r ≡ Ok (written_classes c.in-Some.registry) = described ∙ (λ i. Ok (told.0 i)) in
-    is_list r c.in-Some.registry (record { class = class; list = list; declared = told.1; cycle = c.has_cycle_of.ensures.0 c.if-has_cycle_of.true })
+    is_list r (record { described = c.in-Ok.classes; registry = c.in-Some.registry }) described (record { class = class; list = list; declared = told.1; cycle = c.has_cycle_of.ensures.0 c.if-has_cycle_of.true })
 
-pub returns : goal.returns
-returns c =
+pub returns-in_default : goal.returns-in_default
+returns-in_default c =
     let head = c.args.head.now in
     let r : KeyedRecord = record { head = head; bytes = c.args.bytes.now } in
     let described : described_in r ≡ Ok c.in-Ok.classes = (λ i. class_list_at (sym c.from.ensures i) (sym c.data_of.ensures i)) ∙ c.in-Ok.ensures.exact in

@@ -14,5 +14,5 @@ pub returns-clause-kept : goal.returns-clause-kept
 returns-clause-kept g c =
     on_ok_weaker c.release_all.result
     (λ is. is_cleaned c.args.recovered.now _ c.requires.whole c.requires.room
-    (ap (λ (s : ChainState). s.segments) is ∙ ap (λ (ps : List ℕ). without_segments ps c.args.recovered.now.chain.segments) c.as_slice.ensures) (ap (λ (s : ChainState). s.spent) is ∙ c.requires.fresh) refl refl refl refl refl)
+    (ap (λ (s : ChainState). s.segments) is ∙ ap (λ (ps : List ℕ). without_segments ps c.args.recovered.now.chain.segments) c.as_slice.ensures) (ap (λ (s : ChainState). s.spent) is ∙ c.requires.fresh) refl refl refl refl refl refl)
     c.release_all.ensures.chain

@@ -17,7 +17,7 @@ pub returns-clause-answer : goal.returns-clause-answer
 returns-clause-answer g c file told =
     let is = c.in_ok-walked.ensures.told file told in
     let told1 = c.walk_file.ensures.calls.holds ∙ told in
-    answered file (c.requires file told) c.in_ok-walked.walked is c.recover_walked.result c.recover_walked.ensures.kept c.recover_walked.ensures.ordered
+    answered file (c.requires file told) c.in_ok-walked.walked is c.recover_walked.result c.recover_walked.ensures.kept c.recover_walked.ensures.ordered c.recover_walked.ensures.named
     (c.recover_walked.ensures.told file is.links told1 is.chain is.heads)
 
 pub returns-clause-told : goal.returns-clause-told
@@ -25,7 +25,7 @@ returns-clause-told g c file told =
     let is = c.in_ok-walked.ensures.told file told in
     let told1 = c.walk_file.ensures.calls.holds ∙ told in
     tells_all file c.recover_walked.result
-    (answered file (c.requires file told) c.in_ok-walked.walked is c.recover_walked.result c.recover_walked.ensures.kept c.recover_walked.ensures.ordered
+    (answered file (c.requires file told) c.in_ok-walked.walked is c.recover_walked.result c.recover_walked.ensures.kept c.recover_walked.ensures.ordered c.recover_walked.ensures.named
     (c.recover_walked.ensures.told file is.links told1 is.chain is.heads))
 
 pub returns-clause-calls : goal.returns-clause-calls

@@ -1,8 +1,9 @@
-use Rattle.std.proofs.Common.{◌∙◌, List, Option, refl, sym, ap, subst}
+use Rattle.std.proofs.Common.{◌∙◌, List, map, Option, refl, sym, ap, subst}
 use Rattle.rio_types.specs.declared.class.ClassDef.{ClassDef}
 use Rattle.rio_key.specs.declared.head.KeyHead.{KeyHead}
 use Rattle.rio_model.specs.StateClasses.{StateClasses}
-use Rattle.rio_recover.specs.Classes.{HasListCycle}
+use Rattle.rio_recover.specs.{Classes.{HasListCycle}, Trees.{places_of}}
+use Rattle.rio_session.specs.SessionState.{kept_tree_of}
 use Rattle.rio_dir.specs.Table.{TableRoom}
 use Rattle.rio_session.proofs.OpenMade.{begins_made, holds_marked, marked_chain, records_of, size_low, stands_made, within_header}
 use Rattle.rio_session.proofs.OpenMadeMoments.{cleaned_unclosed, cleaning_time, marked_unclosed, marking_time}
@@ -61,7 +62,7 @@ returns-clause-unclosed g c file quiet holds =
 pub heads_length-heads_bytes-requires : goal.heads_length-heads_bytes-requires
 heads_length-heads_bytes-requires g c =
     let after = c.clean.new.recovered in
-    size_low after.chain.segments after.table.heads after.info after.name c.in_ok-clean.ensures.kept.closable
+    size_low after.chain.segments after.table.heads after.info (places_of after.trees) after.name c.in_ok-clean.ensures.kept.closable
 
 pub returns-clause-stands : goal.returns-clause-stands
 returns-clause-stands g c file text m holds told reads =
@@ -75,6 +76,7 @@ returns-clause-stands g c file text m holds told reads =
       segments = refl;
       classes = kept.registry;
       heads = ap (λ (t : TableRoom). t.heads) kept.table;
+      trees = kept.trees;
       info = kept.info;
       name = kept.name;
       nbytes_name = kept.nbytes_name;
@@ -96,6 +98,7 @@ returns-clause-begins g c name file holds =
       segments = refl;
       classes = kept.registry;
       heads = ap (λ (t : TableRoom). t.heads) kept.table;
+      trees = kept.trees;
       info = kept.info;
       name = kept.name;
       nbytes_name = kept.nbytes_name;
@@ -114,6 +117,7 @@ invariant_of-result g c =
       listed = subst (λ (x : Option KeyHead × List ClassDef). HasListCycle x.0 x.1) (λ i. (sym kept.info i, sym kept.registry i)) whole.listed;
       kept = λ fresh. kept.closable;
       fresh = λ fresh. kept.fresh;
+      trees = c.requires.trees ∙ ap (map kept_tree_of) (sym kept.trees);
       bytes = λ fresh. c.heads_length-heads_bytes.ensures;
       directory = λ fresh. kept.directory;
     }

@@ -1,7 +1,9 @@
-use Rattle.std.proofs.{Common.{sym, ◌∙◌}, lemmas.Result.{err_from_is_err_and}}
+use Rattle.std.proofs.{Common.{refl, sym, subst, ◌∙◌}, lemmas.Result.{err_from_is_err_and}}
+use Rattle.rio_host.specs.Host.{Rose}
 use Rattle.rio_host.proofs.ReadsLaws.{reads_join, reads_one}
 use Rattle.rio_session.proofs.OpenAnswers.{reads_quiet, reads_unclosed, spares_none, tells_why}
-use Rattle.rio_session.proofs.OpenMoments.{then_time}
+use Rattle.rio_recover.specs.declared.fault.RecoverFault.TheVariants.{NoMemory as NoRoomToRead}
+use Rattle.rio_session.proofs.OpenMoments.{reads_time, then_time}
 use Rattle.rio_session.proofs.made_file.open_made.Goals as goal
 
 pub returns-in_err-opened-clause-unclosed : goal.returns-in_err-opened-clause-unclosed
@@ -19,6 +21,32 @@ pub returns-in_err-recovered-clause-why_not : goal.returns-in_err-recovered-clau
 returns-in_err-recovered-clause-why_not g c file holds =
     let p = err_from_is_err_and c.from_residual-in_err-recovered.result c.from_residual-in_err-recovered.ensures.1 in
     tells_why file _ p.0 c.in_err-recovered.field-0.0 p.1 p.2 (c.in_err-recovered.ensures.answer file (c.length.ensures.holds ∙ holds))
+
+pub returns-in_err-trees-clause-any_moment : goal.returns-in_err-trees-clause-any_moment
+returns-in_err-trees-clause-any_moment g c file text m quiet holds said reads =
+    let law = g.met.H.Host.lawful in
+    let calls = reads_join (law c.length.new.self) (reads_one c.length.ensures.disk c.length.ensures.holds c.length.ensures.reads) c.recover.ensures.calls in
+    reads_time file text m (g.H.Host.view c.args.host.now) (law c.args.host.now) quiet holds said reads (g.H.Host.view c.recover.new.host) calls
+
+pub returns-in_err-trees-clause-unclosed : goal.returns-in_err-trees-clause-unclosed
+returns-in_err-trees-clause-unclosed g c file quiet holds =
+    let law = g.met.H.Host.lawful in
+    let calls = reads_join (law c.length.new.self) (reads_one c.length.ensures.disk c.length.ensures.holds c.length.ensures.reads) c.recover.ensures.calls in
+    reads_unclosed file (g.H.Host.view c.args.host.now) (g.H.Host.view c.recover.new.host) (law c.recover.new.host) quiet holds calls
+
+pub returns-in_err-trees-clause-why_not : goal.returns-in_err-trees-clause-why_not
+returns-in_err-trees-clause-why_not g c file holds =
+    let p = err_from_is_err_and c.from_residual-in_err-trees.result c.from_residual-in_err-trees.ensures.1 in
+    tells_why file _ p.0 NoRoomToRead p.1 p.2 tt
+
+pub returns-in_err-trees-clause-spared : goal.returns-in_err-trees-clause-spared
+returns-in_err-trees-clause-spared g c file holds =
+    let is = c.in_ok-recovered.ensures.answer file (c.length.ensures.holds ∙ holds) in
+    spares_none file _ _ is.1 is.2
+
+pub returns-in_err-trees-clause-untouched : goal.returns-in_err-trees-clause-untouched
+returns-in_err-trees-clause-untouched g c e =
+    reads_join (g.met.H.Host.lawful c.length.new.self) (reads_one c.length.ensures.disk c.length.ensures.holds c.length.ensures.reads) c.recover.ensures.calls
 
 pub begin-requires-clause-recovered : goal.begin-requires-clause-recovered
 begin-requires-clause-recovered g c file holds = (c.in_ok-recovered.ensures.answer file (sym c.recover.ensures.calls.holds ∙ holds)).0
@@ -58,3 +86,10 @@ pub returns-clause-spared : goal.returns-clause-spared
 returns-clause-spared g c file holds =
     let is = c.in_ok-recovered.ensures.answer file (c.length.ensures.holds ∙ holds) in
     spares_none file _ _ is.1 is.2
+
+pub returns-in_err-begin-clause-cause : goal.returns-in_err-begin-clause-cause
+returns-in_err-begin-clause-cause g c =
+    let p = err_from_is_err_and c.from_residual-in_err-begin.result c.from_residual-in_err-begin.ensures.1 in
+    let calls = reads_join (g.met.H.Host.lawful c.length.new.self) (reads_one c.length.ensures.disk c.length.ensures.holds c.length.ensures.reads) c.recover.ensures.calls in
+    let counted = c.in_ok-recovered.ensures.cause ∙ c.in_ok-opened.ensures.counted refl in
+    rw (p.1, p.2) (subst (λ n. Rose n (g.H.Host.view c.begin.new.host).disk_faults) counted (c.in_err-begin.ensures.cause.rose refl), c.begin.ensures.writes.say_faults ∙ calls.say_faults)

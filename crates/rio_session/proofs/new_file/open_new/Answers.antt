@@ -1,7 +1,9 @@
-use Rattle.std.proofs.{Common.{◌∙◌, refl, sym, ap, subst}, lemmas.Result.{err_from_is_err_and}}
+use Rattle.std.proofs.{Common.{◌∙◌, map, refl, sym, ap, subst}, lemmas.Result.{err_from_is_err_and}}
 use Rattle.rio_model.specs.StateClasses.{StateClasses}
 use Rattle.rio_chain.specs.Chains.{ChainState}
 use Rattle.rio_dir.specs.Table.{TableRoom, heads_size}
+use Rattle.rio_tree_table.specs.Table as trees
+use Rattle.rio_session.specs.SessionState.{kept_tree_of}
 use Rattle.rio_session.proofs.OpenAnswers.{tells_why_new, unborn_sound}
 use Rattle.rio_session.proofs.OpenMoments.{first_unclosed, made_unclosed, making_time, synced_unclosed, unborn_empty}
 use Rattle.rio_session.proofs.OpenNew.{begins_new, chain_new, directory_within, kept_new, stands_new}
@@ -16,9 +18,10 @@ pub invariant_of-result : goal.invariant_of-result
 invariant_of-result g c = record {
   classes = subst StateClasses (sym c.new.ensures) tt;
   listed = tt;
-  kept = λ fresh. kept_new c.in_ok-chain.field-0.chain.segments c.new-2.result.heads c.args.name.now c.in_ok-own.own c.requires.short
-      (ap (λ (s : ChainState). s.segments) c.in_ok-chain.ensures.chain) c.in_ok-chain.ensures.low (ap (λ (t : TableRoom). t.heads) c.new-2.ensures) c.in_ok-own.ensures;
+  kept = λ fresh. kept_new c.in_ok-chain.field-0.chain.segments c.new-2.result.heads c.new-4.result c.args.name.now c.in_ok-own.own c.requires.short
+      (ap (λ (s : ChainState). s.segments) c.in_ok-chain.ensures.chain) c.in_ok-chain.ensures.low (ap (λ (t : TableRoom). t.heads) c.new-2.ensures) c.new-4.ensures c.in_ok-own.ensures;
   fresh = λ fresh. ap (λ (s : ChainState). s.spent) c.in_ok-chain.ensures.chain;
+  trees = ap (λ (t : trees.TableRoom). t.trees) c.new-3.ensures ∙ ap (map kept_tree_of) (sym c.new-4.ensures);
   bytes = λ fresh. sym (ap (λ (t : TableRoom). heads_size t.heads) c.new-2.ensures);
   directory = λ fresh. directory_within c.in_ok-chain.field-0.chain.segments c.args.name.now c.in_ok-chain.field-0.nbytes_name
       (ap (λ (s : ChainState). s.segments) c.in_ok-chain.ensures.chain) c.in_ok-chain.ensures.name;
@@ -44,6 +47,7 @@ returns-clause-stands g c file text m holds said reads =
       segments = ap (λ (s : ChainState). s.segments) c.in_ok-chain.ensures.chain;
       classes = c.new.ensures;
       heads = ap (λ (t : TableRoom). t.heads) c.new-2.ensures;
+      trees = c.new-4.ensures;
       info = refl;
       name_is = c.in_ok-own.ensures;
       nbytes_name = c.in_ok-chain.ensures.name;
@@ -60,6 +64,7 @@ returns-clause-begins g c file holds =
       segments = ap (λ (s : ChainState). s.segments) c.in_ok-chain.ensures.chain;
       classes = c.new.ensures;
       heads = ap (λ (t : TableRoom). t.heads) c.new-2.ensures;
+      trees = c.new-4.ensures;
       info = refl;
       name_is = c.in_ok-own.ensures;
       nbytes_name = c.in_ok-chain.ensures.name;

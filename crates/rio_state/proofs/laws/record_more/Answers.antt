@@ -1,4 +1,4 @@
-use Rattle.rio_state.proofs.{KeysFollow.{keys_follow}, MoreRecords.{count_grows, first_stays, record_more}, Stays.{info_stays}}
+use Rattle.rio_state.proofs.{KeysFollow.{keys_follow}, MoreRecords.{count_grows, first_stays, record_more}, Places.{places_differ}, Stays.{info_stays}}
 use Rattle.rio_state.proofs.laws.record_more.Goals as goal
 
 pub returns-clause-more : goal.returns-clause-more
@@ -15,3 +15,6 @@ returns-clause-info c = info_stays
 
 pub returns-clause-keys : goal.returns-clause-keys
 returns-clause-keys c = keys_follow
+
+pub returns-clause-places : goal.returns-clause-places
+returns-clause-places c = places_differ

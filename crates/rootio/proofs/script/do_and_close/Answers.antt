@@ -5,7 +5,7 @@ use Rattle.rio_chain.proofs.OneChain.{chain_one}
 use Rattle.rio_step.specs.Runs.{state_after}
 use Rattle.rio_session.specs.{Closes.{ClosesFile, IsWellClosed}, Session.{ClosesAs}}
 use Rattle.rio_session.proofs.{CloseStates.{holds_closed_file}, Spoken.{grows_none}}
-use Rattle.rootio.specs.{Headline.{all_replies}, Script.{session_run}, Writing.{StandsUnsaid}}
+use Rattle.rootio.specs.{Headline.{all_replies}, Script.{session_run}, Writing.{StandsUnsaid, file_run_from}}
 use Rattle.rootio.proofs.{Doing.{cause_of_close, on_ok_all}, RunStops.{stop_closing}, Unclosed.{close_open, stays_open}, Untouched.{any_join}}
 use Rattle.rootio.proofs.script.do_and_close.Goals as goal
 
@@ -45,19 +45,17 @@ returns g c =
           let done = all.done m text stands in
           record {
             quiet = quiet;
-            run = done.records.run;
-            run_is = done.records.run_is;
             said = c.close.ensures.writes.said ∙ done.stands.said ∙ ap (λ l. some_text (text ++ l)) (sym (append-nil (all_replies r)));
             left = λ image told leaves. closed end (text ++ all_replies r) done.stands image told leaves;
             written = λ image told leaves.
                 let closes : ClosesFile (g.H.Host.view c.do_commands.new.host) (g.H.Host.view c.close.new.host) c.do_commands.new.session = written end (text ++ all_replies r) done.stands in
                 let same = quiet image told closes.written.file leaves closes.written.holds in
                 let file : done.records.now ≡ closes.file = same_Some done.records.now closes.file (sym done.records.holds ∙ closes.holds) in
-                let links : closes.links ≡ done.records.run.links =
-                chain_one closes.file closes.links done.records.run.links closes.chain.chain (subst (IsChain done.records.run.links) file done.records.chain.chain) in
-                let last = holds_closed_file (g.H.Host.view c.do_commands.new.host) (g.H.Host.view c.close.new.host) c.do_commands.new.session stands.file image closes
+                let last = (file_run_from c.args.session.datime stands.state.links m c.args.commands.now).records.links in
+                let links : closes.links ≡ last = chain_one closes.file closes.links last closes.chain.chain (subst (IsChain last) file done.records.chain.chain) in
+                let well = holds_closed_file (g.H.Host.view c.do_commands.new.host) (g.H.Host.view c.close.new.host) c.do_commands.new.session stands.file image closes
                 (subst (KeepsFront stands.file) file done.records.front) (closes.written.holds ∙ ap Some (sym same)) in
-                subst (λ (x : (List ℕ × ℕ) × List Link). IsWellClosed x.0.0 x.0.1 stands.file x.1 image) (λ i. ((done.name i, done.datime i), links i)) last;
+                subst (λ (x : (List ℕ × ℕ) × List Link). IsWellClosed x.0.0 x.0.1 stands.file x.1 image) (λ i. ((done.name i, done.datime i), links i)) well;
             room = done.room;
           }) c.close.ensures.closed c.close.ensures.written c.close.ensures.quiet;
       unclosed = λ m text stands.

@@ -1,12 +1,12 @@
 use Rattle.std.proofs.lemmas.Result.{IfOk-from_err, err_from_is_err_and}
 use Rattle.rio_host.proofs.PiecesLaws.{grown_join}
 use Rattle.rio_machine.specs.declared.command.Outcome.{Outcome}
-use Rattle.rootio.proofs.Built.{all_told, built_at, statable_at}
+use Rattle.rootio.proofs.Built.{built_at, statable_at}
 use Rattle.rootio.proofs.{Doing.{all_done, cause_behind, does_next, leaves_open, nothing_yet, room_there, stops_there, unsaid_there}, Untouched.{any_join}}
 use Rattle.rootio.proofs.script.do_commands.Goals as goal
 
 pub loop-command-init : goal.loop-command-init
-loop-command-init g c = nothing_yet (g.H.Host.view c.args.host.now) c.args.session.now c.args.commands.now (all_told c.args.commands.now c.requires.built) c.requires.ready c.requires.fresh
+loop-command-init g c = nothing_yet (g.H.Host.view c.args.host.now) c.args.session.now c.args.commands.now c.requires.ready c.requires.fresh
 
 pub apply-requires : goal.apply-requires
 apply-requires g c = record {

@@ -2,8 +2,9 @@ use Rattle.std.proofs.{Common.{◌≡◌, ◌∙◌, refl, ap, subst, arith}, le
 use Rattle.std.specs.Option.{option_copied}
 use Rattle.rio_chain.specs.{Adjoining.{AreSegments}, Chains.{ChainState}, Placing.{file_end}}
 use Rattle.rio_close.specs.{Leaving.{IsReadyToClose}, Written.{OpenFile}}
+use Rattle.rio_recover.specs.Trees.{places_of}
 use Rattle.rio_session.specs.{Closes.{open_file}, Sound.{IsSoundState}, Session.{SessionState}}
-use Rattle.rio_session.proofs.{CloseRoom.{directory_low, fits_all, list_low, need_low}, CloseStates.{closes_file, closing_time, holds_open, leaves_closed, open_named, same_file}}
+use Rattle.rio_session.proofs.{CloseRoom.{directory_low, fits_all, list_low, need_low}, CloseStates.{closes_file, closing_time, holds_open, leaves_closed, open_named, open_trees, same_file}}
 use Rattle.rio_session.proofs.session.Session.close.Goals as goal
 
 pub close_records-requires-clause-heads : goal.close_records-requires-clause-heads
@@ -12,13 +13,13 @@ close_records-requires-clause-heads g c =
 
 pub close_records-requires-clause-info : goal.close_records-requires-clause-info
 close_records-requires-clause-info g c =
-    list_low c.self.inside.chain.segments c.self.inside.table.heads c.self.inside.info c.self.inside.name c.as_ref.result
+    list_low c.self.inside.chain.segments c.self.inside.table.heads c.self.inside.info (places_of c.self.inside.headers) c.self.inside.name c.as_ref.result
     (subst (λ (s : ChainState). AreSegments s.segments) (c.chain.view_is ∙ c.in_ok-reserve.ensures.ok) c.chain.invariant.shape)
     (c.self.invariant.kept (ap (λ (s : SessionState). s.failed) c.self.view_is ∙ c.requires.fresh)) c.as_ref.ensures.value
 
 pub close_records-requires-clause-low : goal.close_records-requires-clause-low
 close_records-requires-clause-low g c =
-    need_low c.self.inside.chain.segments c.reserve.new.self.segments c.self.inside.table.heads c.self.inside.info c.self.inside.name c.as_slice.result.now
+    need_low c.self.inside.chain.segments c.reserve.new.self.segments c.self.inside.table.heads c.self.inside.info (places_of c.self.inside.headers) c.self.inside.name c.as_slice.result.now
     (c.self.invariant.kept (ap (λ (s : SessionState). s.failed) c.self.view_is ∙ c.requires.fresh))
     (ap (λ (s : ChainState). s.segments) c.in_ok-reserve.ensures.ok) c.as_slice.ensures
 
@@ -101,3 +102,4 @@ returns-clause-written g c m text stands =
     let sound : IsSoundState c.args.self = subst IsSoundState c.self.view_is (record { classes = c.self.invariant.classes; kept = c.self.invariant.kept }) in
     closes_file (g.H.Host.view c.args.host.now) (g.H.Host.view c.write_close.new.host) c.args.self m f c.in_ok-records.records held same c.in_ok-records.ensures (c.in_ok-write_close.ensures.written f m ready) (sound.kept c.requires.fresh)
     (open_named (g.H.Host.view c.args.host.now) c.args.self m text stands f segments heads info nbytes_name)
+    (open_trees (g.H.Host.view c.args.host.now) c.args.self m text stands f segments heads info nbytes_name)

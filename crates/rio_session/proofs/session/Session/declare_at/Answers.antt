@@ -20,6 +20,7 @@ invariant_of-self g c =
       listed = subst (HasListCycle c.self.inside.info) (sym same) c.self.invariant.listed;
       kept = c.self.invariant.kept;
       fresh = c.self.invariant.fresh;
+      trees = c.self.invariant.trees;
       bytes = c.self.invariant.bytes;
       directory = c.self.invariant.directory;
     }
@@ -41,6 +42,7 @@ invariant_of-self-2 g c =
       listed = still_listed c.self.inside.info s.classes c.declare.new.self d.class all (subst (HasListCycle c.self.inside.info) (ap (λ (x : SessionState). x.classes) c.self.view_is) c.self.invariant.listed);
       kept = c.self.invariant.kept;
       fresh = c.self.invariant.fresh;
+      trees = c.self.invariant.trees;
       bytes = c.self.invariant.bytes;
       directory = c.self.invariant.directory;
     }
@@ -85,6 +87,7 @@ invariant_of-self-in-Err-NoMemory g c =
       listed = subst (λ (x : Option KeyHead × List ClassDef). HasListCycle x.0 x.1) (λ i. (info i, same i)) c.self.invariant.listed;
       kept = c.self-2.invariant.kept;
       fresh = c.self-2.invariant.fresh;
+      trees = c.self-2.invariant.trees;
       bytes = c.self-2.invariant.bytes;
       directory = c.self-2.invariant.directory;
     }

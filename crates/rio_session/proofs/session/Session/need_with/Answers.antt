@@ -8,22 +8,22 @@ use Rattle.rio_session.proofs.session.Session.need_with.Goals as goal
 
 pub overflow_add-heads : goal.overflow_add-heads
 overflow_add-heads c =
-    let b = kept_bounds _ _ _ _ (c.self.invariant.kept (ap (λ (s : SessionState). s.failed) c.self.view_is ∙ c.requires.fresh)) in
+    let b = kept_bounds _ _ _ _ _ (c.self.invariant.kept (ap (λ (s : SessionState). s.failed) c.self.view_is ∙ c.requires.fresh)) in
     omega (arith, b.0, c.self.invariant.bytes (ap (λ (s : SessionState). s.failed) c.self.view_is ∙ c.requires.fresh), c.key_length.ensures.short)
 
 pub overflow_add-live : goal.overflow_add-live
 overflow_add-live c =
-    let b = kept_bounds _ _ _ _ (c.self.invariant.kept (ap (λ (s : SessionState). s.failed) c.self.view_is ∙ c.requires.fresh)) in
+    let b = kept_bounds _ _ _ _ _ (c.self.invariant.kept (ap (λ (s : SessionState). s.failed) c.self.view_is ∙ c.requires.fresh)) in
     omega (arith, b.1, c.live.ensures)
 
 pub close_length-requires-clause-heads : goal.close_length-requires-clause-heads
 close_length-requires-clause-heads c =
-    let b = kept_bounds _ _ _ _ (c.self.invariant.kept (ap (λ (s : SessionState). s.failed) c.self.view_is ∙ c.requires.fresh)) in
+    let b = kept_bounds _ _ _ _ _ (c.self.invariant.kept (ap (λ (s : SessionState). s.failed) c.self.view_is ∙ c.requires.fresh)) in
     omega (arith, b.0, c.self.invariant.bytes (ap (λ (s : SessionState). s.failed) c.self.view_is ∙ c.requires.fresh), c.key_length.ensures.short)
 
 pub close_length-requires-clause-live : goal.close_length-requires-clause-live
 close_length-requires-clause-live c =
-    let b = kept_bounds _ _ _ _ (c.self.invariant.kept (ap (λ (s : SessionState). s.failed) c.self.view_is ∙ c.requires.fresh)) in
+    let b = kept_bounds _ _ _ _ _ (c.self.invariant.kept (ap (λ (s : SessionState). s.failed) c.self.view_is ∙ c.requires.fresh)) in
     omega (arith, b.1, c.live.ensures)
 
 pub returns : goal.returns

@@ -1,23 +1,6 @@
 use Rattle.std.proofs.Common.{subst}
 use Rattle.rio_session.specs.Doable.{IsToDo}
-use Rattle.rio_session.proofs.CommandDoes.{get_is_done, ls_is_done}
 use Rattle.rio_session.proofs.session.Session.work.Goals as goal
 
-pub returns-in-Class-clause-does : goal.returns-in-Class-clause-does
-returns-in-Class-clause-does g c command todo = c.class.ensures.does command (subst (IsToDo c.args.self.now command) c.in-Class.is todo)
-
-pub returns-in-Put-clause-does : goal.returns-in-Put-clause-does
-returns-in-Put-clause-does g c command todo = c.put.ensures.does command (subst (IsToDo c.args.self.now command) c.in-Put.is todo)
-
-pub returns-in-Delete-clause-does : goal.returns-in-Delete-clause-does
-returns-in-Delete-clause-does g c command todo = c.delete.ensures.does command (subst (IsToDo c.args.self.now command) c.in-Delete.is todo)
-
-pub returns-in-Get-clause-does : goal.returns-in-Get-clause-does
-returns-in-Get-clause-does g c command todo =
-    get_is_done (g.H.Host.view c.args.host.now) (g.H.Host.view c.get.new.host) c.args.self.now c.get.new.self (g.met.H.Host.lawful c.args.host.now) (g.met.H.Host.lawful c.get.new.host) c.requires.ready c.requires.fresh c.get.result
-    command c.in-Get.head c.in-Get.version (subst (IsToDo c.args.self.now command) c.in-Get.is todo) c.get.ensures.sound c.get.ensures.tells
-
-pub returns-in-Ls-clause-does : goal.returns-in-Ls-clause-does
-returns-in-Ls-clause-does g c command todo =
-    ls_is_done (g.H.Host.view c.args.host.now) (g.H.Host.view c.list.new.host) c.args.self.now c.list.new.self (g.met.H.Host.lawful c.args.host.now) (g.met.H.Host.lawful c.list.new.host) c.requires.ready c.requires.fresh c.list.result
-    command (subst (IsToDo c.args.self.now command) c.in-Ls.is todo) c.list.ensures.sound c.list.ensures.says c.list.ensures.outcome
+pub returns-in-Item-clause-does : goal.returns-in-Item-clause-does
+returns-in-Item-clause-does g c command todo = c.item_work.ensures.does command (subst (IsToDo c.args.self.now command) c.in-Item.is todo)

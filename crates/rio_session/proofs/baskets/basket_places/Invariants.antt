@@ -1,0 +1,6 @@
+use Rattle.std.proofs.Common.{◌≡◌, map, take}
+use Rattle.std.specs.List.{flat_map}
+use Rattle.rio_session.proofs.baskets.basket_places.Given as goal
+
+abbrev pub invariant-loop-branch : goal.invariant-loop-branch
+invariant-loop-branch l = l.places.items ≡ flat_map (λ b. map (λ at. at.seek) b.baskets) (take l.branch-index l.branch-items)
