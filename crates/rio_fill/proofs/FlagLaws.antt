@@ -1,9 +1,9 @@
 -- Flags of branches.
-use Rattle.std.proofs.Common.{◌≡◌, ℕ, zero, suc, ◌+◌, ◌-◌, ◌*◌, ◌/◌, ◌%◌, ◌==◌, ◌^◌, ◌<◌, ◌≤◌, List, [], ◌∷◌, length, drop, get_or, slice_get, Bool, true, false, Some, None, refl, sym, ap, ◌∙◌, arith}
+use Rattle.std.proofs.Common.{◌≡◌, ℕ, zero, suc, ◌+◌, ◌-◌, ◌*◌, ◌/◌, ◌%◌, ◌==◌, ◌^◌, ◌<◌, ◌≤◌, List, [], ◌∷◌, length, drop, get_or, slice_get, Bool, true, false, not, Some, None, refl, sym, ap, ◌∙◌, arith}
 use Rattle.std.proofs.{Math.Nat.{pow-le-pow_right, pow-suc}, lemmas.List.{drop-drop, length-drop}}
 use Rattle.std.specs.Option.{option_map_or}
 use Rattle.rio_entry.proofs.Counting.{left_begins}
-use Rattle.rio_fill.specs.{Fill.{BranchFill, bit_of, full_flags, has_flag, is_full_for}, Laws.{FlagsNameBaskets}}
+use Rattle.rio_fill.specs.{Fill.{BranchFill, bit_of, full_flags, has_flag, has_no_entries, is_full_for, open_flags}, Laws.{FlagsNameBaskets, OpenFlagsNameBaskets}}
 use Rattle.rio_fill.proofs.Lists.{get_left}
 
 no_entries : (bs : List BranchFill) → full_flags bs [] ≡ 0
@@ -55,6 +55,29 @@ module _ (bs : List BranchFill) (entries : List (List ℕ)) (k : ℕ) (b : Branc
       ∙ ap (λ (n : ℕ). bit_of (is_full_for b (slice_get entries k)) + 2 * n) (so_far ∙ ap (λ (n : ℕ). full_flags (drop n bs) (drop n entries)) next_is)
       ∙ flags_more
 
+-- ---- flags of open baskets
+
+open_below : (bs : List BranchFill) → open_flags bs < 2 ^ length bs
+open_below [] = omega arith
+open_below (b ∷ bs) =
+    let more = open_below bs in
+    let small = bit_small (not (has_no_entries b)) in
+    let power : 2 ^ suc (length bs) ≡ 2 ^ length bs * 2 = pow-suc 2 (length bs) in
+    omega (arith, more, small, power)
+
+pub open_fit : (bs : List BranchFill) (k : ℕ) → length bs ≤ 64 → open_flags (drop k bs) < 2 ^ 64
+open_fit bs k few =
+    let below = open_below (drop k bs) in
+    let short : length (drop k bs) ≤ 64 = omega (arith, length-drop k bs, few) in
+    let power : 2 ^ length (drop k bs) ≤ 2 ^ 64 = pow-le-pow_right (omega arith) short in
+    omega (arith, below, power)
+
+pub open_step : (bs : List BranchFill) (k : ℕ) (b : BranchFill) → k < length bs → b ≡ get_or bs k b → (next bit flags : ℕ) → next ≡ k + 1 → bit ≡ bit_of (not (has_no_entries b)) → flags ≡ open_flags (drop next bs) → bit + 2 * flags ≡ open_flags (drop k bs)
+open_step bs k b lt e next bit flags next_is bit_is so_far =
+    ap (λ (n : ℕ). n + 2 * flags) bit_is
+    ∙ ap (λ (n : ℕ). bit_of (not (has_no_entries b)) + 2 * n) (so_far ∙ ap (λ (n : ℕ). open_flags (drop n bs)) next_is)
+    ∙ ap open_flags (sym (left_begins bs k b lt e))
+
 -- ---- single flags
 
 no_flags : (n k : ℕ) → n ≡ 0 → has_flag n k ≡ false
@@ -86,6 +109,14 @@ flags_named (b ∷ bs) (entry ∷ entries) zero =
     ap (λ (n : ℕ). n == 1) (first_flag t (full_flags bs entries)) ∙ bit_is_one t
 flags_named (b ∷ bs) (entry ∷ entries) (suc k) =
     ap (λ (n : ℕ). has_flag n k) (other_flags (is_full_for b (Some entry)) (full_flags bs entries)) ∙ flags_named bs entries k
+
+pub open_named : OpenFlagsNameBaskets
+open_named [] k = no_flags 0 k refl
+open_named (b ∷ bs) zero =
+    let t = not (has_no_entries b) in
+    ap (λ (n : ℕ). n == 1) (first_flag t (open_flags bs)) ∙ bit_is_one t
+open_named (b ∷ bs) (suc k) =
+    ap (λ (n : ℕ). has_flag n k) (other_flags (not (has_no_entries b)) (open_flags bs)) ∙ open_named bs k
 
 pub flag_next : (n k : ℕ) → 0 < k → has_flag n k ≡ has_flag (n / 2) (k - 1)
 flag_next n zero lt = absurd (omega arith)

@@ -98,6 +98,11 @@ full_flags [] entries = 0
 full_flags (b ∷ bs) [] = 0
 full_flags (b ∷ bs) (entry ∷ entries) = bit_of (is_full_for b (Some entry)) + 2 * full_flags bs entries
 
+-- A number of which the bit at k says whether the open basket of the k-th branch has entries.
+abbrev pub open_flags : List BranchFill → ℕ
+open_flags [] = 0
+open_flags (b ∷ bs) = bit_of (not (has_no_entries b)) + 2 * open_flags bs
+
 -- the bit at k
 abbrev pub has_flag : ℕ → ℕ → Bool
 has_flag flags zero = flags % 2 == 1

@@ -1,11 +1,11 @@
 -- What the baskets of a tree that is being filled hold.
-use Rattle.std.specs.Prelude.{◌≡◌, ℕ, ◌+◌, List, [], ◌∷◌, ◌++◌, ◌≤◌, length, map, slice_get, true, false, nat_le, Some, IsTrue}
+use Rattle.std.specs.Prelude.{◌≡◌, ℕ, ◌+◌, List, [], ◌∷◌, ◌++◌, ◌≤◌, length, map, slice_get, true, false, not, nat_le, Some, IsTrue}
 use Rattle.std.specs.List.{list_all}
 use Rattle.rio_basket.specs.Open.{entries_length}
 use Rattle.std.specs.Option.{option_map_or}
 use Rattle.rio_tree.specs.declared.basket_at.BasketAt.{BasketAt}
 use Rattle.rio_basket.specs.Cut.{all_entries, cut_into_baskets, cut_of, firsts_from}
-use Rattle.rio_fill.specs.{Fill.{BranchFill, branch_added, branch_put, count_before, full_flags, has_flag, has_no_entries, is_full_for, takes}, Prepare.{is_sized}, Room.{branch_reserved, may_be_added}}
+use Rattle.rio_fill.specs.{Fill.{BranchFill, branch_added, branch_put, count_before, full_flags, has_flag, has_no_entries, is_full_for, open_flags, takes}, Prepare.{is_sized}, Room.{branch_reserved, may_be_added}}
 
 abbrev pub firsts_of : List BasketAt → List ℕ
 firsts_of ats = map (λ at. at.first) ats
@@ -41,6 +41,10 @@ CutHoldsAll = (entries : List (List ℕ)) → all_entries (cut_into_baskets entr
 abbrev pub FlagsNameBaskets : Type 0
 FlagsNameBaskets = (branches : List BranchFill) (entries : List (List ℕ)) (k : ℕ)
     → has_flag (full_flags branches entries) k ≡ option_map_or (λ b. is_full_for b (slice_get entries k)) (slice_get branches k) false
+
+-- And of the others: exactly where the open basket has entries.
+abbrev pub OpenFlagsNameBaskets : Type 0
+OpenFlagsNameBaskets = (branches : List BranchFill) (k : ℕ) → has_flag (open_flags branches) k ≡ option_map_or (λ b. not (has_no_entries b)) (slice_get branches k) false
 
 -- ---- room
 

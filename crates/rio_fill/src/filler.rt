@@ -8,7 +8,7 @@ ghost use Rattle.rio_fill.specs.Heads.{places_wanted, saved_branches};
 ghost use Rattle.rio_fill.specs.Room.{branches_reserved, entry_given, may_add, without_room};
 
 use crate::branch::OpenBranch;
-use crate::flags::{Flags, full_flags};
+use crate::flags::{Flags, full_flags, open_flags};
 use crate::prepared::{Prepared, prepare_row};
 use rio_basket::Basket;
 use rio_entry::EntryFault;
@@ -134,29 +134,49 @@ impl Model for Filler {
     } };
 }
 
+// How many rows the header has.
+fn rows_saved(head: &TreeHead) -> u64
+    ensures { result ≡ head.now.entries }
+{
+    head.entries
+}
+
 impl Filler {
-    ghost use Rattle.std.specs.Prelude.{◌≡◌, ◌+◌, ◌-◌, ◌<◌, ◌^◌, IfOk, IsTrue, OnOk, slice_get};
+    ghost use Rattle.std.specs.Prelude.{◌≡◌, ◌+◌, ◌-◌, ◌<◌, ◌^◌, IfOk, IsTrue, OnOk, length, slice_get};
     ghost use Rattle.std.specs.Option.{option_copied, option_map};
     ghost use Rattle.rio_num.specs.Answers.{GivesUnless};
     ghost use Rattle.rio_machine.specs.declared.entry_fault.EntryFault.TheVariants.{NoMemory as OutOfMemory};
-    ghost use Rattle.rio_fill.specs.Fill.{all_saved, basket_of, basket_put, count_before, defs_of, entry_count, fill_of, full_flags, may_put, nothing_is_open, row_added};
+    ghost use Rattle.rio_fill.specs.Fill.{all_saved, basket_of, basket_put, count_before, defs_of, entry_count, fill_of, full_flags, may_put, nothing_is_open, open_flags, row_added};
     ghost use Rattle.rio_fill.specs.Heads.{CanBeFilled, are_places, saved_head};
     ghost use Rattle.rio_fill.specs.Prepare.{are_sized, row_prepared};
     ghost use Rattle.rio_fill.specs.Room.{SameButRoom, may_add, reserved};
 
     /// A tree as it was saved, with nothing pending.
-    pub fn new(alloc: Global, head: TreeHead) -> Result<Filler, NoMemory>
-        requires { CanBeFilled head }
-        ensures { IfOk result (λ filler. filler ≡ fill_of head) }
+    pub fn new(alloc: Global, head: &TreeHead) -> Result<Filler, NoMemory>
+        requires { CanBeFilled head.now }
+        ensures { IfOk result (λ filler. filler ≡ fill_of head.now) }
     {
-        let saved = head.entries;
         let branches = open_branches(alloc, head.branches.as_slice())?;
         Ok(Filler {
             alloc,
-            saved,
+            saved: rows_saved(head),
             pending: 0,
             branches,
         })
+    }
+
+    /// How many branches there are.
+    pub fn width(&self) -> usize
+        ensures { result ≡ length self.now.branches }
+    {
+        self.branches.len()
+    }
+
+    /// How many rows the last header has.
+    pub fn saved_rows(&self) -> u64
+        ensures { result ≡ self.now.saved }
+    {
+        self.saved
     }
 
     /// How many rows are pending.
@@ -233,6 +253,13 @@ impl Filler {
         ensures { result ≡ full_flags self.now.branches prepared.now }
     {
         full_flags(self.branches.as_slice(), prepared)
+    }
+
+    /// Of which branches the open basket has entries.
+    pub fn open_flags(&self) -> Flags
+        ensures { result ≡ open_flags self.now.branches }
+    {
+        open_flags(self.branches.as_slice())
     }
 
     /// Makes room for one more written basket of each branch, and for the row where one is given, once the baskets are

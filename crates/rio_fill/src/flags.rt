@@ -1,6 +1,6 @@
 //! Flags of branches.
-ghost use Rattle.std.specs.Prelude.{◌≡◌, ◌≤◌, length, slice_get};
-ghost use Rattle.rio_fill.specs.Fill.{full_flags, has_flag, is_full_for};
+ghost use Rattle.std.specs.Prelude.{◌≡◌, ◌≤◌, length, not, slice_get};
+ghost use Rattle.rio_fill.specs.Fill.{bit_of, full_flags, has_flag, has_no_entries, is_full_for, open_flags};
 
 use crate::branch::OpenBranch;
 use crate::prepared::Prepared;
@@ -46,6 +46,27 @@ pub(crate) fn full_flags(branches: &[OpenBranch], entries: &Prepared) -> Flags
             0
         };
         flags = bit + 2 * flags;
+    }
+    flags
+}
+
+// 1 where the open basket of the branch has entries, and else 0.
+fn open_bit(branch: &OpenBranch) -> u64
+    ensures { result ≡ bit_of (not (has_no_entries branch.now)) }
+{
+    if branch.count() == 0 { 0 } else { 1 }
+}
+
+/// Of which branches the open basket has entries.
+pub(crate) fn open_flags(branches: &[OpenBranch]) -> Flags
+    requires { length branches.now ≤ 64 }
+    ensures { result ≡ open_flags branches.now }
+{
+    let mut flags = 0;
+    let mut k = branches.len();
+    while k > 0 {
+        k -= 1;
+        flags = open_bit(&branches[k]) + 2 * flags;
     }
     flags
 }

@@ -1,5 +1,5 @@
 //! Laws of what is pending.
-ghost use Rattle.rio_fill.specs.Laws.{CutHoldsAll, EntryKeepsCut, FlagsNameBaskets, FreshIsCut, OpenBasketStaysSmall, RowMayBeAdded, SaveListsBaskets};
+ghost use Rattle.rio_fill.specs.Laws.{CutHoldsAll, EntryKeepsCut, FlagsNameBaskets, FreshIsCut, OpenBasketStaysSmall, OpenFlagsNameBaskets, RowMayBeAdded, SaveListsBaskets};
 
 /// The entries of a branch that are pending stay divided by the rule with each row, and no entry is lost. A save lists the
 /// baskets that the branch had, and behind them those of the pending entries.
@@ -10,9 +10,11 @@ pub fn rows_are_cut()
     ensures all { CutHoldsAll }
 {}
 
-/// The flag of a branch is set exactly where its open basket is put before the row is added.
+/// The flag of a branch is set exactly where its open basket is put before the row is added; of those of a save, exactly where
+/// its open basket has entries.
 pub fn flags_name_baskets()
-    ensures { FlagsNameBaskets }
+    ensures of_row { FlagsNameBaskets }
+    ensures of_save { OpenFlagsNameBaskets }
 {}
 
 /// A row for which room was made may be added once the full baskets were put.

@@ -292,7 +292,8 @@ fn saves(alloc: Global, filler: &mut Filler) -> Result<bool, NoMemory> {
 fn fills_a_tree(rt: HostRuntime) -> Result<(), Fail> {
     let alloc = rt.alloc();
     let classes = Classes::new(alloc);
-    let mut filler = Filler::new(alloc, head(alloc)?)?;
+    let saved = head(alloc)?;
+    let mut filler = Filler::new(alloc, &saved)?;
     let none = row(alloc, 0, 0, 0)?;
     assert!(rt; fill(&mut filler, &classes, &none));
     assert!(rt; has_put(&filler, 0, 1, 0) && has_put(&filler, 1, 1, 0));
@@ -311,7 +312,8 @@ fn fills_a_tree(rt: HostRuntime) -> Result<(), Fail> {
 fn refuses_rows(rt: HostRuntime) -> Result<(), Fail> {
     let alloc = rt.alloc();
     let classes = Classes::new(alloc);
-    let filler = Filler::new(alloc, head(alloc)?)?;
+    let saved = head(alloc)?;
+    let filler = Filler::new(alloc, &saved)?;
     let mut long = row(alloc, 0, 0, 0)?;
     long.push(Value::Int(0))?;
     let rows = [

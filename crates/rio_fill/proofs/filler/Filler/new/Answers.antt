@@ -9,6 +9,6 @@ pub invariant_of-result : goal.invariant_of-result
 invariant_of-result c =
     let items = c.in_ok-branches.ensures ∙ ap (λ (bs : List Branch). map branch_fill_of bs) c.as_slice.ensures in
     record {
-      defs = subst (λ (ds : List BranchDef). AreFillable ds) (sym (ap defs_of items ∙ defs_begun c.args.head.branches)) c.requires.defs;
-      small = omega arith;
+      defs = subst (λ (ds : List BranchDef). AreFillable ds) (sym (ap defs_of items ∙ defs_begun c.args.head.now.branches)) c.requires.defs;
+      small = omega (arith, c.rows_saved.ensures);
     }
