@@ -166,6 +166,45 @@ s;1 TObjString
 no 3 NoSuchName' ""
 "$program" scan beside.root G </dev/null >said 2>told
 check "scan of a tree that was deleted" $? 0 "no 3 NoSuchName" ""
+# A tree is made, filled and saved by one run and filled on by the next; a copy that is marked as open, as a run that was cut off leaves
+# it, is recovered with all its rows.
+printf '%s\n' 'class Hit 1 { id: i32, charge: f32 }' 'tree E n=n/I v=v[n]/F name=name/C hit=class:Hit' \
+    'fill E [2, [0x3f800000, 0x40000000], "a", Hit{id: 1, charge: 0x3f800000}]' 'save E' \
+    'fill E [0, [], "", Hit{id: 2, charge: 0x00000000}]' 'fill E [1, [], "short", null]' 'scan E' 'ls' >filled
+"$program" run trees.root <filled >said 2>told
+events='0 [2, [0x3f800000, 0x40000000], "a", Hit#1{id: 1, charge: 0x3f800000}]
+1 [0, [], "", Hit#1{id: 2, charge: 0x00000000}]'
+check "a tree that is filled" $? 0 "ok class Hit 1
+ok tree E;1
+ok fill E 0
+ok save E;2 1
+ok fill E 1
+no 12 BadRow
+ok scan E 2
+$events
+ok ls 1
+E;2 TTree 1 1" ""
+"$program" scan trees.root E </dev/null >said 2>told
+check "scan of a tree that was filled" $? 0 "ok scan E 2
+$events" ""
+printf '%s\n' 'fill E [0, [], "c", Hit{id: 3, charge: 0x00000000}]' 'save E' 'fill E [0, [], "d", Hit{id: 4, charge: 0x00000000}]' >filled
+"$program" run trees.root <filled >said 2>told
+check "a tree that is filled on" $? 0 'ok fill E 2
+ok save E;4 3
+ok fill E 3' ""
+events="$events
+2 [0, [], \"c\", Hit#1{id: 3, charge: 0x00000000}]
+3 [0, [], \"d\", Hit#1{id: 4, charge: 0x00000000}]"
+python3 - <<'P'
+with open("trees.root", "r+b") as file:
+    file.seek(12)
+    file.write((2000000000).to_bytes(4, "big"))
+P
+"$program" recover trees.root </dev/null >said 2>told
+check "recover of a file with a tree that was filled" $? 0 'E;5 TTree' ""
+"$program" scan trees.root E </dev/null >said 2>told
+check "scan of it" $? 0 "ok scan E 4
+$events" ""
 place=$(python3 - <<'P'
 data = bytearray(open("kept.root", "rb").read())
 name = data.index(b"\x05TTree\x01G")

@@ -9,18 +9,14 @@ use Rattle.rio_dir.proofs.TableOrder.{before_itself}
 use Rattle.rio_machine.specs.State.{NameAndCycle, State}
 use Rattle.rio_state.specs.{Contents.{object_in, state_classes}, DirectoryKeys.{AreKeysOf}}
 use Rattle.rio_state.specs.KeyedRecords.{KeyedRecord, has_item, info_key, is_mixed_name, is_outdated, is_top_key, is_tree_key, is_tree_record, item_of_key, object_records, top_keys, tree_records}
-use Rattle.rio_state.specs.{Reads.{AreRecordsOf, StandsForState, are_distinct, is_named_key}, Trees.{TreesBeside, all_places_named, are_named_once, basket_places, places_named, records_before, tree_of, trees_beside}}
+use Rattle.rio_state.specs.{Reads.{AreRecordsOf, StandsForState, are_distinct, is_named_key}, Trees.{TreesBeside, all_places_named, basket_places, places_named, records_before, tree_of, trees_beside}}
 use Rattle.rio_state.proofs.{KeyRecords.{ObjectOf, TreeOf, distinct_found, item_is, key_record}, Collected.{own_item}, KeysFollow.{items_in}}
-use Rattle.rio_state.proofs.Members.{In, all_at, any_from, filter_in, found, in_filter, in_left, in_map, in_right, map_in, none_at, none_from, passing}
-use Rattle.rio_state.proofs.{Places.{flat_map_in}, TreeGone.{tree_from}, TreesSame.{found_agree, holds_tree, in_flat_map}}
+use Rattle.rio_state.proofs.Members.{In, all_at, all_from, any_from, filter_in, found, in_filter, in_left, in_map, in_right, map_in, none_at, none_from, passing}
+use Rattle.rio_state.proofs.{Places.{flat_map_in}, TreeGone.{once_fewer, tree_from}, TreesSame.{found_agree, holds_tree, in_flat_map}}
 
 -- ---- lists
 
 module _ {A : Type 0} (p : A → Bool) where
-  pub all_from : (xs : List A) → ((x : A) → In x xs → p x ≡ true) → list_all p xs ≡ true
-  all_from [] all = refl
-  all_from (x ∷ xs) all = and_from (p x) (list_all p xs) (all x (inl refl)) (all_from xs (λ y i. all y (inr i)))
-
   -- what passes among some of them passes among all
   any_within : (xs ys : List A) → ((x : A) → In x xs → In x ys) → list_any p xs ≡ true → list_any p ys ≡ true
   any_within xs ys within e = let x = passing p xs e in any_from p x.x ys (within x.x x.among) x.passes
@@ -49,19 +45,6 @@ module _ {A : Type 0} (p : A → Bool) where
       by (Some x) e None f = let a = found p x xs e in absurd (not_missed x ys (there x a.among) a.passes f)
       by None e (Some y) f = let b = found p y ys f in absurd (not_missed y xs (here y b.among) b.passes e)
       by None e None f = refl
-
--- places that are named once are so with fewer others
-once_fewer : (fewer others ps : List ℕ) → ((p : ℕ) → In p fewer → In p others) → are_named_once others ps ≡ true → are_named_once fewer ps ≡ true
-once_fewer fewer others [] within once = refl
-once_fewer fewer others (q ∷ qs) within once =
-    let parts = and_parts (not (list_any (λ o. q == o) others)) (are_named_once (q ∷ others) qs) once in
-    let none = none_from (λ o. q == o) fewer (λ p i e. none_at (λ o. q == o) p others (not-true _ parts.0) (within p i) e) in
-    let rest = once_fewer (q ∷ fewer) (q ∷ others) qs more parts.1 in
-    and_from _ _ (ap not none) rest
-  where
-    more : (p : ℕ) → (q ≡ p) ⊎ In p fewer → (q ≡ p) ⊎ In p others
-    more p (inl same) = inl same
-    more p (inr i) = inr (within p i)
 
 -- ---- heads in order
 

@@ -5,7 +5,6 @@ use Rattle.std.specs.{List.{onto_first, position_or_len, slice_split}, Prelude.{
 use Rattle.std.specs.Str.Lines.{lines, lines_of_parts, strip_carriage_return}
 use Rattle.rio_machine.specs.declared.command.Command.{Command}
 use Rattle.rio_step.specs.Script.{commands_from, is_command_line, line_command}
-use Rattle.rio_cmd.specs.Built.{built_from, built_line}
 
 abbrev ends : ℕ → Bool
 ends b = b == 10
@@ -63,30 +62,31 @@ rest_whole n bytes = ap (λ m. take m (drop n bytes)) (sym (length-drop n bytes)
 
 -- ---- the commands of lines, one line after the other
 
--- each line that is a command gives one, and the others give none
-pub record GiveCommands (one : ℕ → List ℕ → Command) (from : ℕ → List (List ℕ) → List Command) : Type 0 where
-  pub none : (number : ℕ) → from number [] ≡ []
-  pub next : (number : ℕ) (line : List ℕ) (later : List (List ℕ)) → from number (line ∷ later)
-      ≡ (if is_command_line line then one number line ∷ from (number + 1) later else from (number + 1) later)
-
-pub built_lines : GiveCommands built_line built_from
-unfolding built_from
-built_lines = record { none = λ number. refl; next = λ number line later. refl }
-
-pub all_lines : GiveCommands line_command commands_from
+no_lines : (number : ℕ) → commands_from number [] ≡ []
 unfolding commands_from
-all_lines = record { none = λ number. refl; next = λ number line later. refl }
+no_lines number = refl
 
-module _ (one : ℕ → List ℕ → Command) (from : ℕ → List (List ℕ) → List Command) (give : GiveCommands one from) (commands all : List Command) (number : ℕ) where
+-- a line that is a command gives one, any other none
+first_command : (number : ℕ) (line : List ℕ) (later : List (List ℕ)) → commands_from number (line ∷ later)
+    ≡ (if is_command_line line then line_command number line ∷ commands_from (number + 1) later else commands_from (number + 1) later)
+unfolding commands_from
+first_command number line later = refl
+
+module _ (commands all : List Command) (number : ℕ) where
   pub command_read : (line : List ℕ) (later : List (List ℕ)) → is_command_line line ≡ true
-      → commands ++ from number (line ∷ later) ≡ all → (commands ++ one number line ∷ []) ++ from (number + 1) later ≡ all
+      → commands ++ commands_from number (line ∷ later) ≡ all → (commands ++ line_command number line ∷ []) ++ commands_from (number + 1) later ≡ all
   command_read line later is e =
-      append_assoc commands (one number line ∷ []) (from (number + 1) later) ∙ ap (λ (l : List Command). commands ++ l) (sym (rw is at (give.next number line later))) ∙ e
+      append_assoc commands (line_command number line ∷ []) (commands_from (number + 1) later)
+      ∙ ap (λ (l : List Command). commands ++ l) (sym (rw is at (first_command number line later)))
+      ∙ e
 
   pub line_passed : (line : List ℕ) (later : List (List ℕ)) → is_command_line line ≡ false
-      → commands ++ from number (line ∷ later) ≡ all → commands ++ from (number + 1) later ≡ all
-  line_passed line later is e = ap (λ (l : List Command). commands ++ l) (sym (rw is at (give.next number line later))) ∙ e
+      → commands ++ commands_from number (line ∷ later) ≡ all → commands ++ commands_from (number + 1) later ≡ all
+  line_passed line later is e = ap (λ (l : List Command). commands ++ l) (sym (rw is at (first_command number line later))) ∙ e
 
-  pub no_lines_left : (bytes : List ℕ) → bytes ≡ [] → commands ++ from number (lines bytes) ≡ all → commands ≡ all
+  pub no_lines_left : (bytes : List ℕ) → bytes ≡ [] → commands ++ commands_from number (lines bytes) ≡ all → commands ≡ all
   no_lines_left bytes empty e =
-      sym (append-nil commands) ∙ ap (λ (l : List Command). commands ++ l) (sym (give.none number)) ∙ ap (λ (left : List ℕ). commands ++ from number (lines left)) (sym empty) ∙ e
+      sym (append-nil commands)
+      ∙ ap (λ (l : List Command). commands ++ l) (sym (no_lines number))
+      ∙ ap (λ (left : List ℕ). commands ++ commands_from number (lines left)) (sym empty)
+      ∙ e

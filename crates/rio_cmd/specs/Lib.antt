@@ -1,3 +1,2 @@
-pub mod Built
+pub mod ImportWords
 pub mod Known
-pub mod Laws

@@ -2,9 +2,9 @@
 ghost use Rattle.std.specs.Prelude.{◌≡◌, if◌then◌else◌};
 ghost use Rattle.rio_token.specs.Reading.{Reads};
 ghost use Rattle.rio_token.specs.Tokens.{behind};
-ghost use Rattle.rio_step.specs.Script.{asked_version_at, class_command_at, comes_next, cycle_at, delete_command_at, ended_at, get_command_at, put_command_at};
-ghost use Rattle.rio_cmd.specs.Built.{built_command_at};
+ghost use Rattle.rio_step.specs.Script.{asked_version_at, class_command_at, command_at, comes_next, cycle_at, delete_command_at, ended_at, get_command_at, put_command_at};
 
+use crate::tree::{read_fill, read_save, read_scan, read_tree};
 use rio_decl::take_class;
 use rio_machine::Command;
 use rio_num::Name;
@@ -15,9 +15,9 @@ use std::alloc::Global;
 /// The command that the tokens of a line spell, up to its end. `BadText` names the first token that can't
 /// stand there. Each verb has a reader of its own, which begins after the verb, but for a declaration's,
 /// which begins with it.
-#[tactic(auto, unfolding(crate::specs::Built::built_command_at))]
+#[tactic(auto, unfolding(rio_step::specs::Script::command_at))]
 pub(crate) fn read_command(alloc: Global, tokens: &mut Tokens) -> Result<Command, TextFault>
-    ensures { Reads (λ c. c) result (built_command_at tokens.old) tokens.new }
+    ensures { Reads (λ c. c) result (command_at tokens.old) tokens.new }
 {
     if is_keyword_next(tokens, b"class") {
         read_class(alloc, tokens)
@@ -25,8 +25,16 @@ pub(crate) fn read_command(alloc: Global, tokens: &mut Tokens) -> Result<Command
         read_put(alloc, tokens)
     } else if take_keyword(tokens, b"delete") {
         read_delete(alloc, tokens)
+    } else if take_keyword(tokens, b"tree") {
+        read_tree(alloc, tokens)
+    } else if take_keyword(tokens, b"fill") {
+        read_fill(alloc, tokens)
+    } else if take_keyword(tokens, b"save") {
+        read_save(alloc, tokens)
     } else if take_keyword(tokens, b"get") {
         read_get(alloc, tokens)
+    } else if take_keyword(tokens, b"scan") {
+        read_scan(alloc, tokens)
     } else if take_keyword(tokens, b"ls") {
         read_ls(tokens)
     } else {

@@ -1,6 +1,6 @@
 //! The commands of a script, line after line.
 ghost use Rattle.std.specs.Prelude.{◌≡◌, ◌<◌, ◌^◌, length, IfOk};
-ghost use Rattle.rio_cmd.specs.Built.{built_line, built_script};
+ghost use Rattle.rio_step.specs.Script.{line_command, script_of};
 
 use crate::command::read_command;
 use crate::lines::{is_command_line, split_line};
@@ -15,7 +15,7 @@ use std::alloc::Global;
 /// that can't stand there, counted from 0, or the line's length where it ends too early.
 pub fn read_script(alloc: Global, bytes: &[u8]) -> Result<Commands, NoMemory>
     requires { length bytes.now < 2 ^ 32 }
-    ensures { IfOk result (λ commands. commands ≡ built_script bytes.now) }
+    ensures { IfOk result (λ commands. commands ≡ script_of bytes.now) }
 {
     let mut commands = Commands::new(alloc);
     let mut passed: u32 = 0;
@@ -30,11 +30,11 @@ pub fn read_script(alloc: Global, bytes: &[u8]) -> Result<Commands, NoMemory>
     Ok(commands)
 }
 
-// The command of the line that has this number.
-#[tactic(auto, unfolding(crate::specs::Built::built_line))]
-fn read_line(alloc: Global, number: u32, line: &[u8]) -> Result<Command, NoMemory>
+/// The command of the line that has this number.
+#[tactic(auto, unfolding(rio_step::specs::Script::line_command))]
+pub(crate) fn read_line(alloc: Global, number: u32, line: &[u8]) -> Result<Command, NoMemory>
     requires { length line.now < 2 ^ 32 }
-    ensures { IfOk result (λ command. command ≡ built_line number line.now) }
+    ensures { IfOk result (λ command. command ≡ line_command number line.now) }
 {
     let mut tokens = Tokens::new(line, 0);
     match read_command(alloc, &mut tokens) {

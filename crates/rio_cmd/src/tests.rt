@@ -1,9 +1,9 @@
 //! Scripts as they are read, by the rules of the language.
-use crate::{read_script, read_whole_script};
+use crate::{read_gen_words, read_import_words, read_script};
 use rio_decl::print_class;
 use rio_leaf::{BranchDef, Shape, print_leaves};
 use rio_machine::{Command, Commands};
-use rio_num::{Bytes, NoMemory};
+use rio_num::{Bytes, Name, NoMemory, Words};
 use rio_types::Base;
 use rio_valtext::print_value;
 use std::alloc::Global;
@@ -122,15 +122,11 @@ fn text_of(alloc: Global, commands: &Commands) -> Result<Bytes, NoMemory> {
 }
 
 // The commands of a script, a line for each.
-fn commands_of(alloc: Global, script: &[u8], whole: bool) -> Result<Bytes, NoMemory> {
+fn commands_of(alloc: Global, script: &[u8]) -> Result<Bytes, NoMemory> {
     if script.len() >= 0x1_0000_0000 {
         return Err(NoMemory);
     }
-    let commands = if whole {
-        read_whole_script(alloc, script)?
-    } else {
-        read_script(alloc, script)?
-    };
+    let commands = read_script(alloc, script)?;
     text_of(alloc, &commands)
 }
 
@@ -142,7 +138,7 @@ fn reads_scripts(rt: HostRuntime) -> Result<(), Fail> {
         (b"put s TObjString{\n\nfrob x\n", b"bad 1 17\nbad 3 0\n"),
         (stored, printed),
         (b"get s\nget s;2\nls", b"get s\nget s;2\nls\n"),
-        (b"get s as 2\ntree T x=x/I\n", b"get s as 2\nbad 2 0\n"),
+        (b"get s as 2\nclasses T x=x/I\n", b"get s as 2\nbad 2 0\n"),
         (
             b"get s;2 as 32767\nget\ts ; 2\tas\t1 \nget as as 1\nget as\n",
             b"get s;2 as 32767\nget s;2 as 1\nget as as 1\nget as\n",
@@ -185,7 +181,7 @@ fn reads_scripts(rt: HostRuntime) -> Result<(), Fail> {
         ),
     ];
     for (script, expected) in table {
-        let text = commands_of(rt.alloc(), script, false)?;
+        let text = commands_of(rt.alloc(), script)?;
         assert!(rt; text.as_slice() == expected);
     }
     Ok(())
@@ -292,8 +288,110 @@ fn reads_lines_of_trees(rt: HostRuntime) -> Result<(), Fail> {
         ),
     ];
     for (script, expected) in table {
-        let text = commands_of(rt.alloc(), script, true)?;
+        let text = commands_of(rt.alloc(), script)?;
         assert!(rt; text.as_slice() == expected);
+    }
+    Ok(())
+}
+
+// The words between the blanks of a line; `~` stands for a blank in a word.
+fn words_of(alloc: Global, line: &[u8]) -> Result<Words, NoMemory> {
+    let mut words = Words::new(alloc);
+    let mut word = Name::new(alloc);
+    for byte in line {
+        if *byte == b' ' {
+            words.push(word)?;
+            word = Name::new(alloc);
+        } else if *byte == b'~' {
+            word.push(b' ')?;
+        } else {
+            word.push(*byte)?;
+        }
+    }
+    words.push(word)?;
+    Ok(words)
+}
+
+// What an import is asked for by the words of a line, or `usage`.
+fn import_of(alloc: Global, line: &[u8]) -> Result<Bytes, NoMemory> {
+    let mut text = Bytes::new(alloc);
+    match read_import_words(alloc, words_of(alloc, line)?.as_slice())? {
+        Some(words) => {
+            put_number(&mut text, words.tree.as_slice(), words.every)?;
+            put_branches(&mut text, words.branches.as_slice())?;
+        }
+        None => text.put(b"usage")?,
+    }
+    Ok(text)
+}
+
+#[test]
+fn reads_words_of_imports(rt: HostRuntime) -> Result<(), Fail> {
+    let table: [(&[u8], &[u8]); 12] = [
+        (b"T 4 id=id/I name=name/C", b"T4 id=id/I name=name/C"),
+        (b".-+ 0 a=x/B:y/b:z/S", b".-+0 a=x/B:y/b:z/S"),
+        (b"T 1000000 class=class/O", b"T1000000 class=class/O"),
+        (b"T 1 a=b/F b=a/D", b"T1 a=b/F b=a/D"),
+        (b"T 1000001 x=x/I", b"usage"),
+        (b"T 01 x=x/I", b"usage"),
+        (b"T -1 x=x/I", b"usage"),
+        (b"T +1 x=x/I", b"usage"),
+        (b"T 1", b"usage"),
+        (b"T", b"usage"),
+        (b"T;1 1 x=x/I", b"usage"),
+        (b"T* 1 x=x/I", b"usage"),
+    ];
+    for (line, expected) in table {
+        let text = import_of(rt.alloc(), line)?;
+        assert!(rt; text.as_slice() == expected);
+    }
+    Ok(())
+}
+
+// `~` is a blank in a word.
+#[test]
+fn refuses_words_that_state_no_branch(rt: HostRuntime) -> Result<(), Fail> {
+    let lines: [&[u8]; 17] = [
+        b"T 1 v=v[3]/I",
+        b"T 1 n=n/I v=v[n]/F",
+        b"T 1 o=class:P",
+        b"T 1 a=a/I a=b/I",
+        b"T 1 a=a/I b=a/I",
+        b"T 1 a=a/I:a/I",
+        b"T 1 a=a/I~b=b/I",
+        b"T 1 ~a=a/I",
+        b"T 1 a=a/I~",
+        b"T 1 a=~a/I",
+        b"T 1 a=a/Q",
+        b"T 1 a=a/II",
+        b"T 1 a=a",
+        b"T 1 a=a/I,b=b/I",
+        b"T 1 7=a/I",
+        b"T 1 x=x/I ",
+        b"T 1 a=class/I b=class",
+    ];
+    for line in lines {
+        let text = import_of(rt.alloc(), line)?;
+        assert!(rt; text.as_slice() == b"usage".as_slice());
+    }
+    Ok(())
+}
+
+#[test]
+fn reads_words_of_generated_files(rt: HostRuntime) -> Result<(), Fail> {
+    let table: [(&[u8], Option<u32>); 8] = [
+        (b"1", Some(1)),
+        (b"1000000", Some(1_000_000)),
+        (b"0", None),
+        (b"1000001", None),
+        (b"01", None),
+        (b"+1", None),
+        (b"1 1", None),
+        (b"4294967297", None),
+    ];
+    for (line, expected) in table {
+        let words = words_of(rt.alloc(), line)?;
+        assert!(rt; read_gen_words(words.as_slice()) == expected);
     }
     Ok(())
 }

@@ -1,3 +1,7 @@
 pub mod Again
+pub mod BadRows
+pub mod ImportLaws
 pub mod RecordLaws
+pub mod TakingLaws
+pub mod UnreadLaws
 pub mod ValueLaws

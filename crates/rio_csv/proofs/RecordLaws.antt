@@ -3,14 +3,11 @@ use Rattle.std.proofs.Common.{◌≡◌, ◌<◌, ◌≤◌, ◌+◌, ◌==◌, 
 use Rattle.std.specs.Prelude.{if◌then◌else◌}
 use Rattle.csv.specs.Machine.{Read, ends_at_end, ends_with, field_after, fields_after, in_field, is_end, next_record, start_field, start_record, step}
 use Rattle.csv.specs.Reading.{AreRecords, Reached, default_config, records, records_from}
+use Rattle.rio_csv.specs.Unread.{IsBetween}
 use Rattle.csv.specs.declared.parser.Action.{Action}
 use Rattle.csv.specs.declared.parser.State.{State}
 use Rattle.csv.specs.declared.parser.State.TheVariants as st
 use Rattle.csv.specs.declared.parser.Terminator.TheVariants as term
-
--- a state between two records
-abbrev pub IsBetween : State → Type 0
-IsBetween s = ends_at_end s ≡ false
 
 -- where the record ends with it, the state is one between two records
 abbrev EndsBetween : State × Action → Type 0
@@ -83,7 +80,7 @@ goes_on s fields field (c ∷ rest) p h =
     (omega (arith, more.0), more.1)
 
 -- from between two records it takes a byte
-takes : (s : State) (text : List ℕ) (p : Read) → IsBetween s → next_record default_config s [] [] text ≡ Some p
+pub takes : (s : State) (text : List ℕ) (p : Read) → IsBetween s → next_record default_config s [] [] text ≡ Some p
     → (length p.2 < length text) × IsBetween p.1
 unfolding next_record
 takes s [] p between h = cc (rw between at h)

@@ -1,8 +1,10 @@
--- Rows that are printed are read again.
-use Rattle.std.specs.{Prelude.{◌≡◌, ⊤, ℕ, ◌^◌, ◌<◌, ℤ, List, [], ◌∷◌, Some, Bool}, List.{flat_map}}
+-- Rows that are printed are read again, and bad rows fit no tree.
+use Rattle.std.specs.{Prelude.{◌≡◌, ⊤, ℕ, ◌^◌, ◌<◌, ℤ, List, [], ◌∷◌, Some, Bool, true, false}, List.{flat_map}}
 use Rattle.csv.specs.Reading.{strip_bom}
 use Rattle.rio_csv.specs.{Fields.{field_kind}, Rows.{letters_of, line_of, rows_in}, declared.field.FieldKind.{FieldKind, TheVariants.{Number, Truth, FourBytes, EightBytes, Text}}}
-use Rattle.rio_leaf.specs.declared.branch.BranchDef.{BranchDef}
+use Rattle.rio_leaf.specs.{Stated.{are_stated_branches}, declared.branch.BranchDef.{BranchDef}}
+use Rattle.rio_machine.specs.Rows.{row_fits}
+use Rattle.rio_types.specs.declared.class.ClassDef.{ClassDef}
 use Rattle.rio_token.specs.Laws.{IsNumber}
 use Rattle.rio_value.specs.declared.value.Value.{Value, Int, Bits32, Bits64, Bool as Truthful, Text as Texted}
 
@@ -30,3 +32,7 @@ abbrev pub PrintedRowsAreRead : Type 0
 PrintedRowsAreRead = (branches : List BranchDef) (rows : List (List Value)) → AreRows (letters_of branches) rows
     → strip_bom (flat_map line_of rows) ≡ flat_map line_of rows
     → rows_in branches (flat_map line_of rows) ≡ rows
+
+-- a bad row fits no branches that a line of the script can state
+abbrev pub BadRowsDontFit : Type 0
+BadRowsDontFit = (classes : List ClassDef) (branches : List BranchDef) → are_stated_branches branches ≡ true → row_fits classes branches [] ≡ false

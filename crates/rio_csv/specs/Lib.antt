@@ -1,3 +1,5 @@
 pub mod Fields
+pub mod Import
 pub mod Laws
 pub mod Rows
+pub mod Unread

@@ -1,6 +1,7 @@
-//! Rows both ways.
-use crate::{print_row, read_rows};
+//! Rows both ways, and the commands of an import.
+use crate::{RowReader, import_script, print_row, read_rows};
 use rio_leaf::{BranchDef, BranchDefs, Dim, Leaf, Leaves, Shape};
+use rio_machine::Command;
 use rio_num::{Bytes, Name};
 use rio_value::{Rows, Value, Values};
 use std::alloc::Global;
@@ -97,5 +98,98 @@ fn bad_rows_are_empty(rt: HostRuntime) -> Result<(), Fail> {
     let text = b"0x3fc00000,true\n1.5,true\n0x3ff8000000000000,true\n0x3fc00000,1\n";
     let found = lengths(rt.alloc(), b"FO", text)?;
     assert!(rt; found.as_slice() == [2, 0, 0, 0].as_slice());
+    Ok(())
+}
+
+#[test]
+fn reads_row_by_row(rt: HostRuntime) -> Result<(), Fail> {
+    let branches = branches(rt.alloc(), b"IC")?;
+    let text = b"1,\"a,b\"\nx,c\n2,";
+    let mut rows = RowReader::new(rt.alloc(), text, branches.as_slice())?;
+    let mut lengths = Vec::new(rt.alloc());
+    for _ in 0..4 {
+        if let Some(row) = rows.next_row()? {
+            lengths.push(row.len())?;
+        }
+    }
+    assert!(rt; lengths.as_slice() == [2, 0, 2].as_slice());
+    assert!(rt; rows.next_row()?.is_none());
+    Ok(())
+}
+
+fn put_command(text: &mut Bytes, command: &Command) -> Result<(), Fail> {
+    match command {
+        Command::Tree { name, branches } => {
+            text.put(b"tree ")?;
+            text.put(name.as_slice())?;
+            text.put_numbered(branches.len() as u64)?;
+            text.put(b"\n")?;
+        }
+        Command::Fill { name, row } => {
+            text.put(b"fill ")?;
+            text.put(name.as_slice())?;
+            text.put(b" ")?;
+            if row.is_empty() {
+                text.put(b"no row\n")?;
+            } else {
+                print_row(row, text)?;
+            }
+        }
+        Command::Save { name } => {
+            text.put(b"save ")?;
+            text.put(name.as_slice())?;
+            text.put(b"\n")?;
+        }
+        _ => text.put(b"another\n")?,
+    }
+    Ok(())
+}
+
+// The commands of an import into a tree `T` with a branch for each of the letters, a line for each.
+fn commands_of(alloc: Global, letters: &[u8], every: u32, text: &[u8]) -> Result<Bytes, Fail> {
+    let branches = branches(alloc, letters)?;
+    let mut script = import_script(alloc, b"T", &branches, every, text)?;
+    let mut lines = Bytes::new(alloc);
+    for _ in 0..20 {
+        if let Some(command) = script.next_command()? {
+            put_command(&mut lines, &command)?;
+        }
+    }
+    Ok(lines)
+}
+
+// Six rows with quotes, and a save behind each four.
+#[test]
+fn imports_six_rows(rt: HostRuntime) -> Result<(), Fail> {
+    let text = b"1,\"a,b\"\n2,\n3,c\n4,\"say \"\"hi\"\"\"\n5,e\n6,f\n";
+    let lines = commands_of(rt.alloc(), b"IC", 4, text)?;
+    let expected =
+        b"tree T 2\nfill T 1,\"a,b\"\nfill T 2,\nfill T 3,c\nfill T 4,\"say \"\"hi\"\"\"\nsave T\nfill T 5,e\nfill T 6,f\n";
+    assert!(rt; lines.as_slice() == expected.as_slice());
+    Ok(())
+}
+
+// A bad row counts, the last save may end the commands, and 0 means no saves.
+#[test]
+fn saves_after_each_so_many_rows(rt: HostRuntime) -> Result<(), Fail> {
+    let table: [(u32, &[u8], &[u8]); 5] = [
+        (
+            2,
+            b"1\nx\n3\n4\n",
+            b"tree T 1\nfill T 1\nfill T no row\nsave T\nfill T 3\nfill T 4\nsave T\n",
+        ),
+        (
+            1,
+            b"1\n2\n",
+            b"tree T 1\nfill T 1\nsave T\nfill T 2\nsave T\n",
+        ),
+        (0, b"1\n2\n", b"tree T 1\nfill T 1\nfill T 2\n"),
+        (3, b"1\n2\n", b"tree T 1\nfill T 1\nfill T 2\n"),
+        (1, b"", b"tree T 1\n"),
+    ];
+    for (every, text, expected) in table {
+        let lines = commands_of(rt.alloc(), b"I", every, text)?;
+        assert!(rt; lines.as_slice() == expected);
+    }
     Ok(())
 }

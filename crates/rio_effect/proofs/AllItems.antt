@@ -1,16 +1,12 @@
 -- No header is outdated, with one record less or more.
-use Rattle.std.proofs.Common.{◌≡◌, ◌⊎◌, inl, inr, ⊎_elim, ◌∙◌, List, [], ◌∷◌, Bool, true, false, not, ◌&&◌, ◌||◌, nat_lt, refl, sym, ap, arith}
+use Rattle.std.proofs.Common.{◌≡◌, ◌⊎◌, inl, inr, ⊎_elim, ◌∙◌, List, Bool, true, false, not, ◌&&◌, ◌||◌, nat_lt, refl, sym, ap, arith}
 use Rattle.std.proofs.lemmas.Bool.{and_from, and_parts, le-ltb, not-true}
 use Rattle.std.specs.{List.{list_all, list_any}, Str.{bytes_eq}}
 use Rattle.rio_num.proofs.BytesEq.{bytes_eq-sym}
 use Rattle.rio_state.specs.{OneMore.{HasOneMoreIn, keyed_bytes}, Referred.{is_item_record}}
 use Rattle.rio_state.specs.KeyedRecords.{KeyedRecord, is_outdated, is_top_key, is_tree_key, is_tree_record, keyed_records, top_keys}
-use Rattle.rio_state.proofs.{KeysFollow.{in_before, in_still}, LessRecords.{record_less}, Members.{In, all_at, filter_in, in_filter, none_at, none_from}, MoreRecords.{record_more}}
+use Rattle.rio_state.proofs.{KeysFollow.{in_before, in_still}, LessRecords.{record_less}, Members.{In, all_at, all_from, filter_in, in_filter, none_at, none_from}, MoreRecords.{record_more}}
 use Rattle.rio_effect.specs.AllItems.{ItemsStayWith, ItemsStayWithout}
-
-all_from : {A : Type 0} (p : A → Bool) (xs : List A) → ((x : A) → In x xs → p x ≡ true) → list_all p xs ≡ true
-all_from p [] each = refl
-all_from p (x ∷ xs) each = and_from (p x) (list_all p xs) (each x (inl refl)) (all_from p xs (λ y i. each y (inr i)))
 
 abbrev pub AllItems : List KeyedRecord → Type 0
 AllItems records = list_all (is_item_record (top_keys records)) (top_keys records) ≡ true

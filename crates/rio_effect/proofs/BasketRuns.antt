@@ -1,7 +1,7 @@
 -- The baskets that a fill and a save put, one after the other.
 use Rattle.std.proofs.Common.{◌≡◌, ◌≢◌, ◌⊎◌, inl, inr, ⊎_elim, ℕ, zero, suc, ◌+◌, ◌-◌, ◌≤◌, ◌∙◌, List, [], ◌∷◌, length, map, take, sum, Bool, true, false, not, ◌||◌, ◌==◌, Option, Some, None, refl, sym, ap, subst, arith}
-use Rattle.std.proofs.lemmas.{Bool.{and_from, and_left, and_parts, eq-eqb, eqb-true, ne_eqb, not-true, or_from}, List.Sums.{sum_by-cons}}
-use Rattle.std.specs.{Prelude.{is_some}, List.{list_any}}
+use Rattle.std.proofs.lemmas.{Bool.{and_from, and_left, eq-eqb, eqb-true, ne_eqb, or_from}, List.Sums.{sum_by-cons}}
+use Rattle.std.specs.Prelude.{is_some}
 use Rattle.rio_leaf.specs.declared.branch.BranchDef.{BranchDef}
 use Rattle.rio_key.specs.declared.head.KeyHead.{KeyHead}
 use Rattle.rio_chain.specs.{Changes.{with_record}, Placing.{IsPlaceFor, place_of}, Segments.{GapAt, IsChain, Link, RecordAt, segment_of}}
@@ -11,7 +11,7 @@ use Rattle.rio_state.specs.{Closing.{held_with}, Contents.{file_classes}, OneMor
 use Rattle.rio_state.specs.KeyedRecords.{KeyedRecord, begins_at, first_place, info_key, is_internal, is_top_key, is_tree_key, is_tree_record, keyed_records, record_at, top_keys, tree_records}
 use Rattle.rio_state.specs.{Referred.{is_item_record, is_named_basket, is_referred}, Trees.{RecordsAt, all_places_named, are_named_once, basket_bytes, is_named_place, places_named}}
 use Rattle.rio_state.proofs.{KeysFollow.{in_new, in_still}, LessRecords.{own_record, with_own}, Members.{In, contains_in, in_contained, in_map, map_in, none_at, none_from}}
-use Rattle.rio_state.proofs.{MoreRecords.{first_stays, record_more}, Places.{basket_there, flat_map_in, info_among}, Stays.{info_same, internal_stays, keys_stay, need_stays, not_info, not_top, tops_same}, TreesSame.{none_there, place_same}}
+use Rattle.rio_state.proofs.{MoreRecords.{first_stays, record_more}, Places.{basket_there, flat_map_in, info_among}, Stays.{info_same, internal_stays, keys_stay, need_stays, not_info, not_top, tops_same}, TreeGone.{once_fewer}, TreesSame.{none_there, place_same}}
 use Rattle.rio_effect.specs.Changes.{all_changed, basket_added, basket_place, changed, lengths_of}
 use Rattle.rio_effect.specs.Garbage.{ArePassed, IsGarbageAt, StandsAlike}
 use Rattle.rio_effect.specs.BasketRuns.{AreBasketsPut, ArePlaced, BasketIsPut, BasketsArePut, BasketsKeepAll, CanAllBePut, IsBasketPut, LeavesBaskets, places_put}
@@ -170,18 +170,6 @@ leaves_after : (a b c : List Link) → LeavesBaskets a b → LeavesBaskets b c �
 leaves_after a b c one two =
     record { tops = two.tops ∙ one.tops; hold = λ offsets at entries h. two.hold offsets at entries (one.hold offsets at entries h); garbage = λ place g. two.garbage place (one.garbage place g) }
 
--- with fewer others they are named once too
-once_within : (fewer others ps : List ℕ) → ((p : ℕ) → In p fewer → In p others) → are_named_once others ps ≡ true → are_named_once fewer ps ≡ true
-once_within fewer others [] within once = refl
-once_within fewer others (q ∷ qs) within once =
-    let parts = and_parts (not (list_any (λ o. q == o) others)) (are_named_once (q ∷ others) qs) once in
-    let none = none_from (λ o. q == o) fewer (λ p i e. none_at (λ o. q == o) p others (not-true _ parts.0) (within p i) e) in
-    and_from _ _ (ap not none) (once_within (q ∷ fewer) (q ∷ others) qs more parts.1)
-  where
-    more : (p : ℕ) → (q ≡ p) ⊎ In p fewer → (q ≡ p) ⊎ In p others
-    more p (inl same) = inl same
-    more p (inr i) = inr (within p i)
-
 abbrev seeks : List Link → List ℕ
 seeks links = map (λ r. r.head.seek) (keyed_records links)
 
@@ -210,7 +198,7 @@ module _ (links : List Link) (words : BasketWords) (can : CanBePut (basket_place
       let none = none_from (λ o. place == o) (seeks links) (λ p i e.
       let from = map_in (λ (r : KeyedRecord). r.head.seek) p (keyed_records links) i in
       none_at (λ r. r.head.seek == place) from.0 (keyed_records links) free from.1 (eq-eqb from.0.head.seek place (from.2 ∙ sym (eqb-true place p e)))) in
-      and_from _ _ (ap not none) (once_within (place ∷ seeks links) (seeks after) ps seeks_within once)
+      and_from _ _ (ap not none) (once_fewer (place ∷ seeks links) (seeks after) ps seeks_within once)
 
 -- of branches that have no entries none is put
 placed_none : (at_place : RecordsAt) (datime : ℕ) (tree : List ℕ) (count : ℕ) (links : List Link) (branches : List BranchDef)

@@ -4,7 +4,7 @@ use Rattle.std.proofs.{lemmas.Bool.{and_from, eqb-true}, lemmas.List.{map-append
 use Rattle.std.specs.List.{flat_map}
 use Rattle.rio_tree.specs.{declared.basket_at.BasketAt.{BasketAt}, declared.head.Branch.{Branch}}
 use Rattle.rio_state.specs.Trees.{are_named_once}
-use Rattle.rio_state.proofs.{Members.{In, in_either, in_left, in_right, none_from}, Places.{AreDistinct}}
+use Rattle.rio_state.proofs.{Members.{In, in_either, in_left, in_right, none_from}, Places.{AreDistinct, distinct_append}}
 use Rattle.rio_effect.specs.{BasketRuns.{places_put}, TreeChanges.{all_behind}, TreeRecords.{branches_with}}
 
 -- ---- lists
@@ -27,13 +27,6 @@ distinct_parts (x ∷ xs) ys d =
       apart = λ p i j. ⊎_elim (λ same. d.0 (in_right x xs ys (subst (λ (q : ℕ). In q ys) (sym same) j))) (λ k. rest.apart p k j) i;
     }
 
-pub distinct_joined : (xs ys : List ℕ) → AreDistinct xs → AreDistinct ys → AreApart xs ys → AreDistinct (xs ++ ys)
-distinct_joined [] ys one two apart = two
-distinct_joined (x ∷ xs) ys one two apart = (
-  (λ i. ⊎_elim one.0 (λ j. apart x (inl refl) j) (in_either x xs ys i)),
-  distinct_joined xs ys one.1 two (λ p i j. apart p (inr i) j),
-)
-
 -- such places are named once, where none is among others
 pub once_from : (others ps : List ℕ) → AreDistinct ps → AreApart ps others → are_named_once others ps ≡ true
 once_from others [] d apart = refl
@@ -48,7 +41,7 @@ distinct_four : (a cs b bs rest : List ℕ) → AreDistinct (a ++ cs) → AreDis
 distinct_four a cs b bs rest one two apart d from =
     let first = distinct_parts a cs one in
     let second = distinct_parts b bs two in
-    distinct_joined (a ++ b) rest (distinct_joined a b first.front second.front (λ p i j. apart p (in_left p a cs i) (in_left p b bs j))) d
+    distinct_append (a ++ b) rest (distinct_append a b first.front second.front (λ p i j. apart p (in_left p a cs i) (in_left p b bs j))) d
     (λ p i j.
     ⊎_elim
     (λ k. ⊎_elim (λ l. first.apart p k l) (λ l. apart p (in_left p a cs k) (in_right p b bs l)) (from p j))

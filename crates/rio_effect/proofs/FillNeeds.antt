@@ -14,7 +14,7 @@ use Rattle.rio_state.specs.{Closing.{KeptRecords, held_with, kept_with}, KeyedRe
 use Rattle.rio_state.specs.TreeLengths.{PendingRows, cuts_of, entries_by_branch, pending_in, put_count, tree_lengths}
 use Rattle.rio_state.proofs.Collected.{name_same}
 use Rattle.rio_step.proofs.ClosedLaws.{saved_keeps_the_rest}
-use Rattle.rio_step.specs.{Costs.{accepted_cost, cost_of, fill_cost}, Refusing.{fill_row}, Runs.{saved_of, saved_tree as tree_without_pending}, Step.{state_behind, tree_filled}, Storable.{IsStoredTree}}
+use Rattle.rio_step.specs.{Costs.{accepted_cost, cost_of, fill_cost}, Refusing.{fill_row}, Runs.{saved_of, saved_tree as tree_without_pending}, Step.{state_behind, tree_filled}, Storable.{IsFillableTree}}
 use Rattle.rio_effect.specs.{AllItems.{AreAllItems}, BasketRuns.{AreBasketsPut}, Changes.{all_changed, lengths_of}, FillNeeds.{CanBeFilled, FillHeldGrows, FillKeepsBaskets, KeepsMoreRecords}, TreeChanges.{changes_of_fill, full_of_tree}, TreeDeletes.{HasHeader, put_since}}
 use Rattle.rio_effect.proofs.{BasketRuns.{baskets_are_put}, CutWeights.{AreShort, cuts_weight, put_more, row_first, row_length, row_more}, PutClasses.{short_item, short_name}, SavedPuts.{trees_named}, SavedRows.{one_each}}
 use Rattle.rio_effect.proofs.{TreeDeletes.{TreeUnder, has_header, tree_named}, TreeNeeds.{held_is, tree_weight}, TreeReplaced.{own_weight, replaced_count, replaced_heads, replaced_name, replaced_weight, weight_of_rows}}
@@ -146,16 +146,16 @@ module _ (datime : ℕ) (file : List ℕ) (links : List Link) (m : State) (name 
       ≤ cuts_weight name t.branches (entries_by_branch t.branches rows) + fill_cost m row t
   heavier = by t.pending
     where
-      stored : IsStoredTree m.classes t
-      stored = can.storable.trees name t can.tree
+      fillable : IsFillableTree m.classes t
+      fillable = can.fillable.trees name t can.tree
 
       short : length name ≤ 100
-      short = short_item name (can.storable.tree_names name t can.tree).item
+      short = short_item name (can.fillable.tree_names name t can.tree).item
 
       by : (pending : List Row) → cuts_weight name t.branches (entries_by_branch t.branches (map (entries_of m.classes t.branches) pending ++ entries ∷ [])) + row_length datime name t.branches (map (entries_of m.classes t.branches) pending) entries
           ≤ cuts_weight name t.branches (entries_by_branch t.branches (map (entries_of m.classes t.branches) pending)) + (sum_by (λ entry. 2 * length entry + 5) entries + (if length pending == 0 then 330 * length t.branches else 0))
-      by [] = omega (arith, row_first name datime short t.branches entries (short_branches t.branches stored.stated) long)
-      by (p ∷ ps) = omega (arith, row_more name datime short t.branches (entries_of m.classes t.branches p) (map (entries_of m.classes t.branches) ps) entries (short_branches t.branches stored.stated) long)
+      by [] = omega (arith, row_first name datime short t.branches entries (short_branches t.branches fillable.stated) long)
+      by (p ∷ ps) = omega (arith, row_more name datime short t.branches (entries_of m.classes t.branches p) (map (entries_of m.classes t.branches) ps) entries (short_branches t.branches fillable.stated) long)
 
   cost_is : cost_of m (Fill name row) ≡ fill_cost m row t
   unfolding cost_of

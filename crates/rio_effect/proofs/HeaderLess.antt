@@ -1,23 +1,15 @@
 -- The keys and the headers among some records, without the header of a tree.
-use Rattle.std.proofs.Common.{◌≡◌, inl, inr, ◌≤◌, ◌∙◌, List, [], ◌∷◌, ◌++◌, map, Bool, true, false, cond, not, ◌&&◌, nat_lt, refl, sym, ap, subst, arith}
+use Rattle.std.proofs.Common.{◌≡◌, ◌≤◌, ◌∙◌, List, [], ◌∷◌, ◌++◌, map, Bool, true, false, not, ◌&&◌, nat_lt, refl, sym, ap, subst, arith}
 use Rattle.std.proofs.{lemmas.Bool.{and_from, and_parts, eq-eqb, ltb-false}}
-use Rattle.std.specs.{List.{filter, list_any}, Str.{bytes_eq}}
+use Rattle.std.specs.{List.{list_any}, Str.{bytes_eq}}
 use Rattle.rio_num.proofs.BytesEq.{bytes_eq-sym}
 use Rattle.rio_state.specs.{Closing.{item_heads}, OneMore.{HasOneMoreIn}, Reads.{are_distinct}, Referred.{is_tree_item}}
 use Rattle.rio_state.specs.KeyedRecords.{KeyedRecord, has_item, info_key, is_outdated, is_top_key, is_tree_key, is_tree_record, item_of_key, object_records, top_keys, tree_records}
 use Rattle.rio_state.proofs.{Insertion.{behind, filter_more, filter_same, map_more}, KeysFollow.{in_new, in_still}, Members.{In, any_from, none_from, none_at}}
-use Rattle.rio_state.proofs.{Removal.{distinct_less}, Stays.{info_same}}
+use Rattle.rio_state.proofs.{Removal.{distinct_less}, Stays.{info_same}, TreeGone.{filter_agree_in}}
 use Rattle.rio_effect.proofs.{AllItems.{AllItems, items_less, newest}, Needs.{not_info}}
 
 -- ---- lists
-
--- two tests that agree at the elements of a list keep the same of them
-filter_agree_in : {A : Type 0} (p q : A → Bool) (xs : List A) → ((x : A) → In x xs → p x ≡ q x) → filter p xs ≡ filter q xs
-filter_agree_in p q [] same = refl
-filter_agree_in p q (x ∷ xs) same =
-    let here = same x (inl refl) in
-    let rest = filter_agree_in p q xs (λ y i. same y (inr i)) in
-    λ i. cond (here i) (x ∷ rest i) (rest i)
 
 -- one more behind others
 more_behind : {A : Type 0} (x : A) (front old new : List A) → HasOneMoreIn old new x → HasOneMoreIn (front ++ old) (front ++ new) x

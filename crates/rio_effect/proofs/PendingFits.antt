@@ -10,7 +10,7 @@ use Rattle.rio_state.specs.{Contents.{file_classes}, KeyedRecords.{info_key, is_
 use Rattle.rio_state.proofs.{Members.{filter_in, in_contained}, Removal.{all_weaker}}
 use Rattle.rio_step.specs.{Runs.{saved_of}, Storable.{is_stored_row}}
 use Rattle.rio_effect.specs.{TreeMade.{PendingRowsFit}}
-use Rattle.rio_effect.proofs.{FillNeeds.{header_of_tree}, HeaderNames.{only_key}, SavedHeads.{stored_behind}}
+use Rattle.rio_effect.proofs.{FillNeeds.{header_of_tree}, HeaderNames.{only_key}}
 
 stored_fits : (classes : List ClassDef) (branches : List BranchDef) (row : Row) → is_stored_row classes branches row ≡ true → row_fits classes branches row ≡ true
 stored_fits classes branches row e =
@@ -19,7 +19,7 @@ stored_fits classes branches row e =
     (and_parts (row_fits classes branches row) (not (has_long_entry classes branches row)) third.0).0
 
 pub pending_rows_fit : PendingRowsFit
-pending_rows_fit file links m chain items storable is r head c header = by (get m.trees r.head.name) refl
+pending_rows_fit file links m chain items fillable is r head c header = by (get m.trees r.head.name) refl
   where
     by : (o : Option Tree) → get m.trees r.head.name ≡ o → list_all (row_fits (file_classes (info_key (keyed_records links))).declared (stated_defs head.branches)) (option_map_or (λ t. t.pending) o []) ≡ true
     by None e = refl
@@ -32,4 +32,4 @@ pending_rows_fit file links m chain items storable is r head c header = by (get 
         let defs : stated_defs head.branches ≡ t.branches = ap (λ (x : TreeHead). stated_defs x.branches) same ∙ h.defs in
         let classes = h.classes in
         (λ i. list_all (row_fits (classes i) (defs i)) t.pending)
-        ∙ all_weaker (is_stored_row m.classes t.branches) (row_fits m.classes t.branches) (stored_fits m.classes t.branches) t.pending (stored_behind m.classes t.branches t.saved t.pending (storable.trees r.head.name t e).rows)
+        ∙ all_weaker (is_stored_row m.classes t.branches) (row_fits m.classes t.branches) (stored_fits m.classes t.branches) t.pending (fillable.trees r.head.name t e).rows

@@ -252,7 +252,7 @@ module _ (datime : ℕ) (file : List ℕ) (now : FileRecords) (m : State) (name 
       let two = weight_is (kept_with (pending_in behind) last) (kept_with (pending_in behind) (links_without links r)) key (tree_lengths classes.declared key.name (pending_in behind key.name) said)
       (1 + length (basket_places said) + put_since (pending_in behind) classes x said) b.name b.heads b.count b.trees in
       let mid = ap weight same_mid in
-      let short = key_short 0 datime name 0 (can.storable.tree_names name t can.tree).item in
+      let short = key_short 0 datime name 0 (can.fillable.tree_names name t can.tree).item in
       let put_held = put.held (pending_in m) in
       omega (
         arith,

@@ -17,7 +17,7 @@ use Rattle.rio_step.specs.{Refusing.{rows_of_tree}, Runs.{saved_of}, Storable.{i
 use Rattle.rio_effect.specs.{BasketRuns.{AreBasketsPut, ArePlaced, places_put}, Headers.{IsNextHeader, stands_against}, PutBaskets.{AreAllPut}, SavedRows.{AreBranchesSaved, IsHeadSaved}}
 use Rattle.rio_effect.specs.{Saves.{CanBeSaved, links_put, next_cycle_of, next_head, next_key, next_place}, TreeChanges.{FileRecords, all_behind, baskets_placed, open_of_tree}, TreeRecords.{header_key, header_record}}
 use Rattle.rio_effect.proofs.{DistinctPlaces.{behind_in, distinct_behind, distinct_with, once_from, with_in}, FillNeeds.{HeaderOfTree, header_of_tree}, HeaderNames.{only_key, trees_apart}}
-use Rattle.rio_effect.proofs.{SavedHeads.{all_begin, all_put_still, branches_are_saved, open_of, stored_behind, stored_rows_read}, SavedRows.{rows_long, same_defs, saved_rows_are_read}, TreeDeletes.{beside_in, holds}}
+use Rattle.rio_effect.proofs.{SavedHeads.{all_begin, all_put_still, branches_are_saved, open_of, stored_rows_read}, SavedRows.{rows_long, same_defs, saved_rows_are_read}, TreeDeletes.{beside_in, holds}}
 
 module _ (datime : ℕ) (file : List ℕ) (now : FileRecords) (m : State) (name : List ℕ) (t : Tree) (can : CanBeSaved datime file now m name t) (image : List ℕ) (chain : IsChain (links_put datime now m name t) image)
     (put : AreBasketsPut datime name (length (rows_of_tree t)) now.links t.branches (open_of_tree m t)) where
@@ -105,8 +105,8 @@ module _ (datime : ℕ) (file : List ℕ) (now : FileRecords) (m : State) (name 
     entries = omega (arith, many, length-map t.pending (entries_of m.classes (stated_defs head.branches)));
     branches = branches_then;
     kept = refl;
-    rows = stored_rows_read m.classes (stated_defs head.branches) t.pending can.storable.classes
-        (ap (λ (defs : List BranchDef). list_all (is_stored_row m.classes defs) t.pending) defs_are ∙ stored_behind m.classes t.branches t.saved t.pending (can.storable.trees name t can.tree).rows);
+    rows = stored_rows_read m.classes (stated_defs head.branches) t.pending can.fillable.classes
+        (ap (λ (defs : List BranchDef). list_all (is_stored_row m.classes defs) t.pending) defs_are ∙ (can.fillable.trees name t can.tree).rows);
   }
 
   pub rows_saved : saved_rows m.classes f said ≡ Some (t.saved ++ t.pending)

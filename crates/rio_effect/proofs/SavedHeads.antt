@@ -135,11 +135,6 @@ stored_rows_read classes branches (row ∷ rows) are stored =
     let parts = and_parts (is_stored_row classes branches row) (list_all (is_stored_row classes branches) rows) stored in
     All-cons (λ x. fitting_row classes branches (entries_of classes branches x) ≡ Some x) row rows (pending_rows_are_read classes branches row are parts.0) (stored_rows_read classes branches rows are parts.1)
 
-pub stored_behind : (classes : List ClassDef) (branches : List BranchDef) (saved pending : List Row) → list_all (is_stored_row classes branches) (saved ++ pending) ≡ true → list_all (is_stored_row classes branches) pending ≡ true
-stored_behind classes branches [] pending stored = stored
-stored_behind classes branches (row ∷ saved) pending stored =
-    stored_behind classes branches saved pending (and_parts (is_stored_row classes branches row) (list_all (is_stored_row classes branches) (saved ++ pending)) stored).1
-
 -- ---- how many they are
 
 length-firsts_from : (first : ℕ) (bs : List (List (List ℕ))) → length (firsts_from first bs) ≡ length bs

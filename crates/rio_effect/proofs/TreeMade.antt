@@ -86,7 +86,7 @@ module _ (datime : ℕ) (file : List ℕ) (links : List Link) (m : State) (name 
   pending = pending_in m
 
   fit : PendingFit pending links
-  fit = pending_rows_fit file links m can.chain can.items can.storable can.records
+  fit = pending_rows_fit file links m can.chain can.items can.fillable can.records
 
   module _ (none : info_key (keyed_records links) ≡ None) where
     abbrev at_list : ℕ

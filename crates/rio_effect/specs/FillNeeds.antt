@@ -3,7 +3,7 @@ use Rattle.std.specs.{Prelude.{◌≡◌, ◌≤◌, ℕ, ◌+◌, List, length,
 use Rattle.rio_chain.specs.Segments.{IsChain, Link}
 use Rattle.rio_machine.specs.{State.{Row, State, Tree}, declared.command.Command.TheVariants.{Fill}}
 use Rattle.rio_state.specs.{Closing.{KeptRecords, held_with, kept_with}, KeyedRecords.{keyed_records}, Reads.{AreRecordsOf}, TreeLengths.{pending_in}}
-use Rattle.rio_step.specs.{Costs.{cost_of}, Refusing.{refusal_of}, Runs.{saved_of}, Step.{state_behind}, Storable.{IsStorable}}
+use Rattle.rio_step.specs.{Costs.{cost_of}, Refusing.{refusal_of}, Runs.{saved_of}, Step.{state_behind}, Storable.{IsFillable}}
 use Rattle.rio_effect.specs.{AllItems.{AreAllItems}, BasketRuns.{CanAllBePut}, Changes.{all_changed}, Garbage.{ArePassed}, TreeChanges.{changes_of_fill, full_of_tree}}
 
 -- The file has these links, whose records stand for the state without its pending rows, and in which no header is outdated. The state has this
@@ -12,7 +12,7 @@ pub record CanBeFilled (datime : ℕ) (file : List ℕ) (links : List Link) (m :
   pub chain : IsChain links file
   pub records : AreRecordsOf (keyed_records links) (saved_of m)
   pub items : AreAllItems links
-  pub storable : IsStorable m
+  pub fillable : IsFillable m
   pub tree : get m.trees name ≡ Some t
   pub taken : refusal_of m (Fill name row) None ≡ None
   pub put : CanAllBePut datime name links t.branches (full_of_tree m row t)

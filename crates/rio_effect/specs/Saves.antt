@@ -6,7 +6,7 @@ use Rattle.rio_dir.specs.Table.{with_head, without_head}
 use Rattle.rio_machine.specs.{State.{State, Tree}, declared.command.Command.TheVariants.{Save}}
 use Rattle.rio_tree.specs.declared.head.TreeHead.{TreeHead}
 use Rattle.rio_state.specs.{Closing.{held_with, kept_with}, Contents.{file_classes}, DirectoryKeys.{AreKeysOf}, KeyedRecords.{info_key, keyed_records}, Reads.{AreRecordsOf}, TreeLengths.{pending_in}}
-use Rattle.rio_step.specs.{Costs.{cost_of}, Refusing.{refusal_of}, Runs.{saved_of}, Step.{state_behind}, Storable.{IsStorable}}
+use Rattle.rio_step.specs.{Costs.{cost_of}, Refusing.{refusal_of}, Runs.{saved_of}, Step.{state_behind}, Storable.{IsFillable}}
 use Rattle.rio_effect.specs.{AllItems.{AreAllItems}, BasketRuns.{CanAllBePut}, Changes.{Change, added_place, all_changed, released}, Garbage.{ArePassed}}
 use Rattle.rio_effect.specs.{HeaderRecords.{IsHeaderRecord}, TreeChanges.{FileRecords, basket_changes, changes_of_save, head_of_save, header_added, open_of_tree}, TreeCommands.{KeepsTree}}
 use Rattle.rio_effect.specs.TreeRecords.{header_data, header_key, header_words}
@@ -39,7 +39,7 @@ pub record CanBeSaved (datime : ℕ) (file : List ℕ) (now : FileRecords) (m : 
   pub chain : IsChain now.links file
   pub records : AreRecordsOf (keyed_records now.links) (saved_of m)
   pub items : AreAllItems now.links
-  pub storable : IsStorable m
+  pub fillable : IsFillable m
   pub tree : get m.trees name ≡ Some t
   pub kept : KeepsTree now m name t
   pub taken : refusal_of m (Save name) None ≡ None

@@ -6,7 +6,7 @@ use Rattle.rio_machine.specs.{State.{State, Tree}, declared.command.Command.{Com
 use Rattle.rio_tree.specs.{WrittenLaws.{AreReadableBranches, FitsTreeHeader}, declared.head.TreeHead.{TreeHead}}
 use Rattle.rio_state.specs.{Closing.{end_limit, held_with}, KeyedRecords.{KeyedRecord, info_key, keyed_records, record_at, top_keys, tree_records}}
 use Rattle.rio_state.specs.{Contents.{file_classes}, Reads.{AreRecordsOf}, TreeLengths.{pending_in}, Trees.{all_places_named, are_named_once}}
-use Rattle.rio_step.specs.{Costs.{cost_of}, Refusing.{refusal_of}, Runs.{saved_of}, Statable.{is_statable}, Step.{state_behind}, Storable.{IsStorable}}
+use Rattle.rio_step.specs.{Costs.{cost_of}, Refusing.{refusal_of}, Runs.{saved_of}, Statable.{is_statable}, Step.{state_behind}, Storable.{IsFillable}}
 use Rattle.rio_effect.specs.{FileRuns.{records_after}, PutBaskets.{AreAllPut}, TreeChanges.{FileRecords, cuts_of_tree, header_of, header_record_of}}
 
 -- Of a tree of the state: its header is read, and behind its baskets those that were put since its last save hold the entries of its pending
@@ -25,7 +25,7 @@ pub record KeepsTree (now : FileRecords) (m : State) (name : List ℕ) (t : Tree
 -- The records stand for the state without its pending rows, and so it is of each tree; of other names nothing is kept.
 pub record KeepsState (now : FileRecords) (m : State) : Type 0 where
   pub records : AreRecordsOf (keyed_records now.links) (saved_of m)
-  pub storable : IsStorable m
+  pub fillable : IsFillable m
   pub trees : (name : List ℕ) (t : Tree) → get m.trees name ≡ Some t → KeepsTree now m name t
   pub others : (name : List ℕ) → get m.trees name ≡ None → now.put name ≡ []
 

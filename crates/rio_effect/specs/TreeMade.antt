@@ -8,7 +8,7 @@ use Rattle.rio_dir.specs.Table.{with_head}
 use Rattle.rio_model.specs.StateClasses.{HasShortList}
 use Rattle.rio_machine.specs.{State.{State}, declared.command.Command.TheVariants.{Tree}}
 use Rattle.rio_state.specs.{Closing.{held_with, kept_with}, Contents.{file_classes}, DirectoryKeys.{AreKeysOf}, KeyedRecords.{info_key, keyed_records}, Reads.{AreRecordsOf}, TreeLengths.{PendingRows, pending_in}}
-use Rattle.rio_step.specs.{Costs.{cost_of, info_size}, Refusing.{refusal_of}, Runs.{saved_of}, Step.{state_behind}, Storable.{IsStorable}}
+use Rattle.rio_step.specs.{Costs.{cost_of, info_size}, Refusing.{refusal_of}, Runs.{saved_of}, Step.{state_behind}, Storable.{IsFillable}}
 use Rattle.rio_effect.specs.{AllItems.{AreAllItems}, Changes.{Change, added_place, all_changed}, ClassRecord.{list_data, list_key, list_record, list_words}, Classes.{KeepsOneList, PendingFit, list_in}}
 use Rattle.rio_effect.specs.{Garbage.{ArePassed}, HeaderRecords.{IsHeaderRecord}, TreeChanges.{changes_of_tree, list_if_none}, TreeRecords.{header_data, header_key, header_words, new_head}}
 
@@ -33,9 +33,9 @@ abbrev pub FirstListIsPut : Type 0
 FirstListIsPut = (file : List ℕ) (links : List Link) (m : State) (place datime : ℕ) → place < 2 ^ 32 → datime < 2 ^ 32 → IsChain links file → AreRecordsOf (keyed_records links) m
     → info_key (keyed_records links) ≡ None → HasShortList m.classes → IsPlaceFor (map segment_of links) (length (list_record place datime 1 m.classes)) place → HasFirstList links m place datime
 
--- the pending rows of a state that a file can hold fit the branches of their trees in the file
+-- the pending rows of a state whose trees can be filled fit the branches of their trees in the file
 abbrev pub PendingRowsFit : Type 0
-PendingRowsFit = (file : List ℕ) (links : List Link) (m : State) → IsChain links file → AreAllItems links → IsStorable m → AreRecordsOf (keyed_records links) (saved_of m) → PendingFit (pending_in m) links
+PendingRowsFit = (file : List ℕ) (links : List Link) (m : State) → IsChain links file → AreAllItems links → IsFillable m → AreRecordsOf (keyed_records links) (saved_of m) → PendingFit (pending_in m) links
 
 -- ---- the tree
 
@@ -60,7 +60,7 @@ pub record CanBeMade (datime : ℕ) (file : List ℕ) (links : List Link) (m : S
   pub chain : IsChain links file
   pub records : AreRecordsOf (keyed_records links) (saved_of m)
   pub items : AreAllItems links
-  pub storable : IsStorable m
+  pub fillable : IsFillable m
   pub taken : refusal_of m (Tree name branches) None ≡ None
   pub item : is_item_text name ≡ true
   pub soon : datime < 2 ^ 32

@@ -1,6 +1,6 @@
 //! The saved rows of a tree that may be written to: every branch is read, every basket has the entries that the header says, and
 //! every row fits.
-ghost use Rattle.std.specs.Prelude.{◌≡◌, ◌+◌, ◌<◌, ◌^◌, ℕ, List, Some, IfOk, IfSome, IsTrue, OnOk, is_some, length, map};
+ghost use Rattle.std.specs.Prelude.{◌≡◌, ◌+◌, ◌<◌, ◌^◌, ℕ, List, true, Some, IfOk, IfSome, IsTrue, OnOk, is_some, length, map};
 ghost use Rattle.std.specs.List.{list_all, range_with_len};
 ghost use Rattle.std.specs.Option.{option_copied, option_map};
 ghost use Rattle.rio_host.specs.Host.{IsLength};
@@ -247,6 +247,8 @@ fn are_file_rows<H: Host>(
     requires { IsLength (H.view host.old) file_length }
     ensures saved { IfOk result (λ saved. AreInOrder head.now → Told (H.view host.old) (λ file.
         saved ≡ is_some (saved_rows classes.now (file_baskets file) head.now))) }
+    ensures whole { IfOk result (λ saved. saved ≡ true
+        → list_all is_whole head.now.branches ≡ true) }
     ensures calls { OnlyReads (H.view host.old) (H.view host.new) }
     ensures cause { IsReadCause (H.view host.old) (H.view host.new) result }
 {
@@ -280,6 +282,9 @@ pub fn are_rows_saved<H: Host>(
     ensures saved { IfOk result (λ saved. AreByPlace keys.now → AreInOrder head.now
         → Told (H.view host.old) (λ file. saved
         ≡ is_some (saved_rows classes.now (keyed_baskets keys.now file) head.now))) }
+    // Whatever the host tells.
+    ensures whole { IfOk result (λ saved. saved ≡ true
+        → list_all is_whole head.now.branches ≡ true) }
     ensures calls { OnlyReads (H.view host.old) (H.view host.new) }
     ensures cause { IsReadCause (H.view host.old) (H.view host.new) result }
 {

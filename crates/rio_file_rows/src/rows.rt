@@ -8,5 +8,7 @@ mod parts;
 mod records;
 mod recovery;
 mod reopened;
+mod scripts;
 mod sessions;
+mod tree_scripts;
 mod trees;

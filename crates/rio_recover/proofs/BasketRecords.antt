@@ -1,6 +1,6 @@
 -- Baskets among the keys of a file's records, and among the records themselves.
-use Rattle.std.proofs.Common.{◌≡◌, ◌∙◌, inl, inr, ℕ, ◌+◌, ◌<◌, ◌≤◌, List, [], ◌∷◌, length, take, drop, map, Bool, true, false, cond, ◌&&◌, ◌==◌, Option, Some, None, refl, sym, ap, subst, arith}
-use Rattle.std.proofs.lemmas.{Bool.{and_from, and_parts, eq-eqb, eqb-true}, List.{length-take, length-drop, Elements.{All-head, All-tail}}}
+use Rattle.std.proofs.Common.{◌≡◌, ◌∙◌, ℕ, ◌+◌, ◌<◌, ◌≤◌, List, [], ◌∷◌, length, take, drop, map, Bool, true, false, cond, ◌&&◌, ◌==◌, Option, Some, None, refl, sym, ap, subst, arith}
+use Rattle.std.proofs.lemmas.{Bool.{and_parts, eq-eqb, eqb-true}, List.{length-take, length-drop, Elements.{All-head, All-tail}}}
 use Rattle.std.specs.{Prelude.{codes, is_some, option_and_then}, List.{All, find, list_all}, Option.{option_map_or}}
 use Rattle.rio_num.specs.Reading.{some_if}
 use Rattle.rio_key.specs.declared.head.KeyHead.{KeyHead}
@@ -9,7 +9,7 @@ use Rattle.rio_chain.proofs.Words.{has_own, has_same}
 use Rattle.rio_types.specs.declared.class.ClassDef.{ClassDef}
 use Rattle.rio_tree.specs.{declared.basket_at.BasketAt.{BasketAt}, declared.head.Branch.{Branch}, declared.head.TreeHead.{TreeHead}}
 use Rattle.rio_state.specs.{KeyedRecords.{KeyedRecord, has_class, record_at}, Trees.{RecordsAt, basket_bytes, bytes_as_said, saved_rows}}
-use Rattle.rio_state.proofs.{Members.{In}, SavedRows.{HasBasket, rows_there}}
+use Rattle.rio_state.proofs.{Members.{all_from}, SavedRows.{HasBasket, rows_there}}
 use Rattle.rio_entry.specs.SavedRows.{has_basket, is_basket_key, keyed_baskets}
 use Rattle.rio_recover.specs.{Baskets.{AreKeyedIn, has_baskets}, Keys.{StandsIn, record_heads}}
 use Rattle.rio_recover.proofs.LinkRecords.{length_of_record}
@@ -55,10 +55,6 @@ records_keyed file heads records all same at = found_bytes file records at all �
 some_there : {A : Type 0} (b : Bool) (x : A) → is_some (some_if b x) ≡ b
 some_there true x = refl
 some_there false x = refl
-
-all_from : {A : Type 0} (p : A → Bool) (xs : List A) → ((x : A) → In x xs → p x ≡ true) → list_all p xs ≡ true
-all_from p [] each = refl
-all_from p (x ∷ xs) each = and_from _ _ (each x (inl refl)) (all_from p xs (λ y i. each y (inr i)))
 
 module _ (file : List ℕ) (heads : List KeyHead) (at_place : RecordsAt) (keyed : AreKeyedIn heads file at_place) where
   -- where the rows are there, each basket is

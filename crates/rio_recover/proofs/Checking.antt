@@ -10,7 +10,7 @@ use Rattle.rio_head.specs.declared.reason.Reason.{Reason, TheVariants.{BadKey, B
 use Rattle.rio_dir.specs.Table.{with_head}
 use Rattle.rio_state.specs.KeyedRecords.{KeyedRecord, has_item, is_mixed_name, is_top_key, is_tree_key, item_of_key, top_keys}
 use Rattle.rio_state.specs.{Reasons.{Beside, ReasonAt, is_bad_object, is_bad_tree, key_reasons, keys_reasons, reason_at, reason_if}}
-use Rattle.rio_recover.specs.{Baskets.{HasPlaces, has_baskets}, Causes.{Judges}, Checks.{AreDataBytes, HasChecked, IsBesideOf, IsChecking, beside_of, is_untitled, item_reasons, value_reasons}, Keys.{keyed_by, record_heads}, Trees.{places_of}}
+use Rattle.rio_recover.specs.{Baskets.{HasPlaces, has_baskets}, Causes.{Judges}, Checks.{AreDataBytes, HasChecked, IsBesideOf, IsChecking, beside_of, is_untitled, item_reasons, value_reasons}, Keys.{keyed_by, record_heads}, Trees.{AreWholeBranches, places_of}}
 use Rattle.rio_recover.specs.{Names.{IndexesNames}, declared.classes.ListedClasses.{ListedClasses}, declared.fault.RecoverFault.{RecoverFault}, declared.judge.KeyCheck.{KeyCheck}, declared.trees.TreeAt.{TreeAt}}
 use Rattle.rio_recover.proofs.{Judging.{judges_on, judges_same}, Keyed.{any_keyed, keyed_again, top_keyed}}
 use Rattle.rio_recover.proofs.{Numbered.{RecordAtIndex, before_other, before_top, behind_other, behind_top}, Tables.{with_moved}}
@@ -161,6 +161,7 @@ fresh_checked heads check fresh = record {
   items = none_left check.items.heads fresh.items;
   untitled = ap (list_all is_untitled) fresh.items;
   trees = subst (λ (ts : List TreeAt). IsPermutation [] (map (λ t. t.name) ts)) (sym fresh.trees) (IsPermutation-refl []);
+  heads_are = subst (λ (ts : List TreeAt). All (λ t. AreWholeBranches t.head) ts) (sym fresh.trees) (All-nil (λ t. AreWholeBranches t.head));
   baskets = subst (λ (ts : List TreeAt). All (λ t. has_baskets heads t.head ≡ true) ts) (sym fresh.trees) (All-nil (λ t. has_baskets heads t.head ≡ true));
   named = subst (λ (ts : List TreeAt). HasPlaces (places_of ts) check.named) (sym fresh.trees) fresh.named;
   once = λ p. subst (λ (ts : List TreeAt). count_by (λ q. p == q) (places_of ts) ≤ 1) (sym fresh.trees) (omega arith);

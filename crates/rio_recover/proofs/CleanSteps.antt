@@ -9,10 +9,10 @@ use Rattle.rio_machine.specs.State.{State, Tree}
 use Rattle.rio_state.specs.{Cleaning.{unreferred}, Closing.{KeptRecords, item_heads, kept_of, kept_with, name_in}, Contents.{file_classes, object_in, state_classes}, DirectoryKeys.{AreKeysOf}, Trees.{TreesBeside, is_named_place, tree_of, tree_under}}
 use Rattle.rio_state.specs.KeyedRecords.{KeyedRecord, first_place, has_item, info_key, is_elsewhere, is_mixed_name, is_top_key, is_tree_key, keyed_records, top_keys, tree_records}
 use Rattle.rio_state.specs.{OneLess.{NeedsNoMore, links_without}, OneMore.{HasOneMoreIn}, Reads.{AreRecordsOf, StandsForState, info_place, is_named_key}, Referred.{is_item_record, is_named_basket, is_referred}, TreeLengths.{PendingRows}}
-use Rattle.rio_state.proofs.{Insertion.{filter_more}, LessNeeds.{needs_no_more}, Members.{In, filter_in}, Removal.{all_less, all_weaker}}
+use Rattle.rio_state.proofs.{Cleaning.{rest_is_left}, Insertion.{filter_more}, LessNeeds.{needs_no_more}, Members.{In, filter_in}, Removal.{all_less, all_weaker}}
 use Rattle.rio_state.proofs.{TreesSame.{all_agree, found_agree, none_of, tree_kept}, Unreferred.{IsPart, info_kept, items_same, part_without}}
 use Rattle.rio_recover.specs.Cleaning.{GarbageIsCleaned, IsCleanOf, without_all}
-use Rattle.rio_recover.proofs.SoundLinks.{Sound, StartsFirst, first_less, gone, one_less, rest_is_left, sound_chain, sound_without}
+use Rattle.rio_recover.proofs.SoundLinks.{Sound, StartsFirst, first_less, gone, one_less, sound_chain, sound_without}
 
 -- the links that are left stand for what those of before stood for, and these records are left of the garbage
 pub record CleanSoFar (before now : List Link) (left : List KeyedRecord) : Type 0 where

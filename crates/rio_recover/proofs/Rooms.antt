@@ -37,7 +37,7 @@ count_in None = refl
 count_in (Some r) = refl
 
 -- and baskets
-places_count : (classes : FileClasses) (headers : List KeyedRecord) (trees : List TreeAt) → IsPermutation (trees_at classes headers) trees → length (places_of trees) ≡ length (all_places_named classes headers)
+pub places_count : (classes : FileClasses) (headers : List KeyedRecord) (trees : List TreeAt) → IsPermutation (trees_at classes headers) trees → length (places_of trees) ≡ length (all_places_named classes headers)
 places_count classes headers trees moved =
     length-flat_map (λ (t : TreeAt). basket_places t.head) trees
     ∙ sum_by-IsPermutation (λ (t : TreeAt). length (basket_places t.head)) (trees_at classes headers) trees moved

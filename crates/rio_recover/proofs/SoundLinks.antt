@@ -107,11 +107,3 @@ first_less old new r h other first = by h.front h.before h.after
     by : (front : List KeyedRecord) → new ≡ front ++ h.back → old ≡ front ++ r ∷ h.back → (name_in new ≡ name_in old) × StartsFirst new
     by [] before after = absurd (other (subst StartsFirst after first))
     by (s ∷ front) before after = (ap name_in before ∙ sym (ap name_in after), subst StartsFirst (sym before) (subst StartsFirst after first))
-
--- of a list that begins with an element, and that no longer has it, the rest is left
-pub rest_is_left : (r : KeyedRecord) (old new rest : List KeyedRecord) → HasOneMoreIn new old r → old ≡ r ∷ rest → (In r new → ⊥) → new ≡ rest
-rest_is_left r old new rest h begins gone = by h.front h.before (sym begins ∙ h.after)
-  where
-    by : (front : List KeyedRecord) → new ≡ front ++ h.back → r ∷ rest ≡ front ++ r ∷ h.back → new ≡ rest
-    by [] before both = let same : rest ≡ h.back = cc in before ∙ sym same
-    by (s ∷ front) before both = let same : s ≡ r = cc in absurd (gone (subst (λ (rs : List KeyedRecord). In r rs) (sym before) (inl same)))

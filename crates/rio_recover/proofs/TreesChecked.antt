@@ -7,7 +7,7 @@ use Rattle.rio_tree.specs.declared.head.TreeHead.{TreeHead}
 use Rattle.rio_dir.specs.Table.{with_head}
 use Rattle.rio_state.specs.{Contents.{FileClasses}, KeyedRecords.{KeyedRecord, is_tree_record, top_keys}, Reasons.{Beside}, Trees.{all_places_named, basket_places, header_in}}
 use Rattle.rio_recover.specs.{Baskets.{AreOnce, HasPlaces, has_baskets}, Checks.{AreDataBytes, GivesTree, HasChecked, HasNamed, IsChecking, IsNext, NotesHeader, PassesKey, header_records, is_header_key, is_item_key, is_item_kind, is_untitled, kind_of, tree_named, with_key}}
-use Rattle.rio_recover.specs.{Keys.{keyed_by, record_heads}, Names.{IndexesNames}, Trees.{places_of, tree_at, trees_at}, TreeTable.{with_tree}}
+use Rattle.rio_recover.specs.{Keys.{keyed_by, record_heads}, Names.{IndexesNames}, Trees.{AreWholeBranches, places_of, tree_at, trees_at}, TreeTable.{with_tree}}
 use Rattle.rio_recover.specs.{declared.judge.KeyCheck.{KeyCheck}, declared.named.NamedPlaces.{NamedPlaces}, declared.trees.TreeAt.{TreeAt}}
 use Rattle.rio_recover.specs.declared.judge.KeyKind.{KeyKind}
 use Rattle.rio_recover.proofs.{Checking.{moved_with}, ItemsChecked.{items_more, outdated_more}, KeyJudged.{untitled_with}, KeyKinds.{item_kind}, OncePlaces.{once_more, once_moved}, PlacesNoted.{SamePlaces, places_same}, Tables.{any-append}, TreeJudged.{headers_more, headers_same}, TreeOrder.{with_moved}}
@@ -157,6 +157,7 @@ module _ (all before : List KeyHead) (head : KeyHead) (kind : KeyKind) (old mid 
         untitled = more.plain;
         trees = subst (λ (ns : List (List ℕ)). IsPermutation ns (map (λ t. t.name) mid.trees)) (sym (names_with false e ∙ append-nil (map (λ h. h.name) (filter (is_header_key tops) before))))
             (subst (λ (ts : List TreeAt). IsPermutation (map (λ h. h.name) (filter (is_header_key tops) before)) (map (λ t. t.name) ts)) (sym passes.trees) so.trees);
+        heads_are = subst (All (λ t. AreWholeBranches t.head)) (sym passes.trees) so.heads_are;
         baskets = subst (All (λ t. has_baskets all t.head ≡ true)) (sym passes.trees) so.baskets;
         named = subst (HasPlaces (places_of mid.trees)) (sym (passes.named ∙ same)) (subst (λ (ts : List TreeAt). HasPlaces (places_of ts) old.named) (sym passes.trees) so.named);
         once = subst (λ (ts : List TreeAt). AreOnce (places_of ts)) (sym passes.trees) so.once;
@@ -182,6 +183,8 @@ module _ (all before : List KeyHead) (head : KeyHead) (kind : KeyKind) (old mid 
             (IsPermutation-to_front (map (λ h. h.name) (filter (is_header_key tops) before)) head.name)
             (IsPermutation-cons head.name (map (λ h. h.name) (filter (is_header_key tops) before)) (map (λ u. u.name) old.trees) so.trees))
             (IsPermutation-map (λ (u : TreeAt). u.name) (t ∷ old.trees) (with_tree t old.trees) moved)));
+        heads_are = subst (All (λ u. AreWholeBranches u.head)) (sym trees)
+            (All-permutation (λ u. AreWholeBranches u.head) (t ∷ old.trees) (with_tree t old.trees) moved (All-cons (λ u. AreWholeBranches u.head) t old.trees notes.whole so.heads_are));
         baskets = subst (All (λ u. has_baskets all u.head ≡ true)) (sym trees)
             (All-permutation (λ u. has_baskets all u.head ≡ true) (t ∷ old.trees) (with_tree t old.trees) moved (All-cons (λ u. has_baskets all u.head ≡ true) t old.trees notes.baskets so.baskets));
         named = subst (λ (ts : List TreeAt). HasPlaces (places_of ts) new.named) (sym trees)

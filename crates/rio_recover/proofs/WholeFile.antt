@@ -8,7 +8,7 @@ use Rattle.rio_chain.specs.{Adjoining.{AreSegments}, declared.segment.Segment.{S
 use Rattle.rio_model.specs.StateClasses.{StateClasses}
 use Rattle.rio_state.specs.{Closing.{name_in}, KeyedRecords.{info_key, is_top_key, top_keys}, Left.{info_head}}
 use Rattle.rio_chain.specs.Keyed.{AreKeyed, IsRecordKey}
-use Rattle.rio_recover.specs.{Baskets.{AreOnce, has_baskets}, Checks.{HasChecked, is_header_key, is_item_key, is_untitled}, Classes.{HasListCycle}, Keys.{keyed_by}, Recovered.{AreParts, place_in, places_left}, Trees.{places_of}, Walked.{IsWholeWalk}}
+use Rattle.rio_recover.specs.{Baskets.{AreOnce, has_baskets}, Checks.{HasChecked, is_header_key, is_item_key, is_untitled}, Classes.{HasListCycle}, Keys.{keyed_by}, Recovered.{AreParts, place_in, places_left}, Trees.{AreWholeBranches, places_of}, Walked.{IsWholeWalk}}
 use Rattle.rio_recover.specs.Whole.{HoldsDirectory, IsWhole}
 use Rattle.rio_recover.specs.{declared.recovery.ReadState.{ReadState}, declared.recovery.Recovered.{Recovered}, declared.trees.TreeAt.{TreeAt}, declared.walked.Walked.{Walked}}
 
@@ -32,6 +32,7 @@ whole_file walked is name info state r parts checked classes listed counts named
       items = subst (IsPermutation (filter (is_item_key (top_keys (keyed_by walked.heads))) (filter is_top_key walked.heads))) table checked.items;
       untitled = ap (list_all is_untitled) (sym table) ∙ checked.untitled;
       trees = subst (λ (ts : List TreeAt). IsPermutation (map (λ h. h.name) (filter (is_header_key (top_keys (keyed_by walked.heads))) (filter is_top_key walked.heads))) (map (λ t. t.name) ts)) trees checked.trees;
+      heads_are = subst (All (λ t. AreWholeBranches t.head)) trees checked.heads_are;
       baskets = subst (All (λ t. has_baskets walked.heads t.head ≡ true)) trees checked.baskets;
       once = subst (λ (ts : List TreeAt). AreOnce (places_of ts)) trees checked.once;
       info = parts.info_is ∙ counts;

@@ -8,7 +8,7 @@ use Rattle.rio_dir.specs.Table.{is_at_cycle, with_head}
 use Rattle.rio_tree.specs.declared.head.TreeHead.{TreeHead}
 use Rattle.rio_state.specs.{KeyedRecords.{KeyedRecord, has_item, is_mixed_name, is_outdated, is_tree_key, is_tree_record, item_of_key, record_at, record_data, top_keys, tree_records}}
 use Rattle.rio_state.specs.{Reasons.{Beside, ReasonAt, is_bad_object, is_bad_tree, reason_if}, Trees.{all_places_named, basket_places, header_in, records_before, saved_rows}}
-use Rattle.rio_recover.specs.{Baskets.{AreNoted, AreOnce, HasPlaces, has_baskets}, Classes.{classes_in}, Keys.{StandsIn, keyed, keyed_by, record_heads}, Names.{IndexesNames}, Trees.{places_of, trees_at}, TreeTable.{has_name, with_tree}}
+use Rattle.rio_recover.specs.{Baskets.{AreNoted, AreOnce, HasPlaces, has_baskets}, Classes.{classes_in}, Keys.{StandsIn, keyed, keyed_by, record_heads}, Names.{IndexesNames}, Trees.{AreWholeBranches, places_of, trees_at}, TreeTable.{has_name, with_tree}}
 use Rattle.rio_recover.specs.declared.fault.RecoverFault.{RecoverFault, TheVariants.{BadFile, ReadOnly, NoMemory, HostFault}}
 use Rattle.rio_recover.specs.{declared.classes.ListedClasses.{ListedClasses}, declared.judge.KeyCheck.{KeyCheck}, declared.named.NamedPlaces.{NamedPlaces}, declared.trees.TreeAt.{TreeAt}}
 use Rattle.rio_recover.specs.declared.judge.KeyKind.{KeyKind, TheVariants.{Object, Tree, Outdated}}
@@ -135,8 +135,9 @@ pub record PassesKey (head : KeyHead) (kind : KeyKind) (old new : KeyCheck) : Ty
 
 -- ---- whatever the host tells
 
--- its baskets are records of the file, and are noted: none was noted before, and none stands twice
+-- its branches are whole, and its baskets are records of the file and are noted: none was noted before, and none stands twice
 pub record NotesHeader (heads : List KeyHead) (old new : NamedPlaces) (tree : TreeHead) : Type 0 where
+  pub whole : AreWholeBranches tree
   pub baskets : has_baskets heads tree ≡ true
   pub noted : (others : List ℕ) → HasPlaces others old → AreNoted others (basket_places tree) new true
 
@@ -158,13 +159,14 @@ NotesTree head tree old new (Err (BadFile place kind)) = ⊥
 NotesTree head tree old new (Err NoMemory) = Unit {0}
 NotesTree head tree old new (Err HostFault) = ⊥
 
--- These keys were checked, of the file with all of these: the items' are in the table, each tree has one of them, its baskets are records
--- of the file, and no basket stands twice.
+-- These keys were checked, of the file with all of these: the items' are in the table, each tree has one of them, its branches are whole,
+-- its baskets are records of the file, and no basket stands twice.
 pub record HasChecked (all before : List KeyHead) (check : KeyCheck) : Type 0 where
   pub names : IndexesNames (top_keys (keyed_by all)) check.names
   pub items : IsPermutation (filter (is_item_key (top_keys (keyed_by all))) before) check.items.heads
   pub untitled : list_all is_untitled check.items.heads ≡ true
   pub trees : IsPermutation (map (λ h. h.name) (filter (is_header_key (top_keys (keyed_by all))) before)) (map (λ t. t.name) check.trees)
+  pub heads_are : All (λ t. AreWholeBranches t.head) check.trees
   pub baskets : All (λ t. has_baskets all t.head ≡ true) check.trees
   pub named : HasPlaces (places_of check.trees) check.named
   pub once : AreOnce (places_of check.trees)

@@ -1,5 +1,5 @@
 //! The header in a tree's record.
-ghost use Rattle.std.specs.Prelude.{◌≡◌, ◌<◌, ◌^◌, length, ℕ, List, Some, IfOk};
+ghost use Rattle.std.specs.Prelude.{◌≡◌, ◌<◌, ◌^◌, length, ℕ, List, Some, IfOk, IfSome};
 ghost use Rattle.std.specs.List.{list_any};
 ghost use Rattle.rio_num.specs.At.{AreBytes};
 ghost use Rattle.rio_format.specs.Objects.{first_at};
@@ -14,7 +14,7 @@ ghost use Rattle.rio_recover.specs.Causes.{IsRecoverCause, Obtains};
 ghost use Rattle.rio_recover.specs.Checks.{AreDataBytes};
 ghost use Rattle.rio_recover.specs.Classes.{classes_in};
 ghost use Rattle.rio_recover.specs.Keys.{StandsIn, record_end};
-ghost use Rattle.rio_recover.specs.Trees.{padded_in, written_head};
+ghost use Rattle.rio_recover.specs.Trees.{IsReadHead, padded_in, written_head};
 
 use crate::RecoverFault;
 use crate::classes::ListedClasses;
@@ -204,6 +204,8 @@ pub(crate) fn read_header<H: Host>(
         → Obtains result (λ found. found ≡ header_in (classes_in classes.now) r) }
     ensures plain { (file : List ℕ) (r : KeyedRecord) → (H.view host.old).holds ≡ Some file
         → StandsIn file r → r.head ≡ head.now → IfOk result (λ _. AreDataBytes r) }
+    // Whatever the host tells.
+    ensures read { IfOk result (λ found. IfSome found IsReadHead) }
     ensures calls { OnlyReads (H.view host.old) (H.view host.new) }
     ensures cause { IsRecoverCause (H.view host.old) (H.view host.new) result }
 {

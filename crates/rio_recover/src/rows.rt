@@ -1,5 +1,7 @@
 //! Whether the rows of a tree are there.
-ghost use Rattle.std.specs.Prelude.{◌≡◌, is_some, ℕ, List, Some, Ok};
+ghost use Rattle.std.specs.Prelude.{◌≡◌, is_some, true, ℕ, List, Some, Ok, IfOk};
+ghost use Rattle.std.specs.List.{list_all};
+ghost use Rattle.rio_entry.specs.SavedRows.{is_whole};
 ghost use Rattle.rio_host.specs.OnlyReads.{OnlyReads};
 ghost use Rattle.rio_value.specs.declared.value.Value.{Value as Read};
 ghost use Rattle.rio_state.specs.Trees.{RecordsAt, saved_rows};
@@ -30,6 +32,9 @@ pub(crate) fn has_rows<H: Host>(
         → (H.view host.old).holds ≡ Some file → AreKeyedIn heads.now file at_place
         → tree_head_in v ≡ Ok head.now
         → Obtains result (λ b. b ≡ is_some (saved_rows classes.now at_place head.now)) }
+    // Whatever the host tells.
+    ensures whole { IfOk result (λ found. found ≡ true
+        → list_all is_whole head.now.branches ≡ true) }
     ensures calls { OnlyReads (H.view host.old) (H.view host.new) }
     ensures cause { IsRecoverCause (H.view host.old) (H.view host.new) result }
 {

@@ -11,6 +11,7 @@ ghost use Rattle.rio_recover.specs.Baskets.{HasPlaces, NotesPlaces, has_baskets}
 ghost use Rattle.rio_recover.specs.Causes.{IsRecoverCause, Judges, Obtains};
 ghost use Rattle.rio_recover.specs.Checks.{AreDataBytes, HasNamed, IsBesideOf, IsNext, GivesHeader, NotesHeader, whole_header};
 ghost use Rattle.rio_recover.specs.Keys.{AreInPlace, StandsIn, record_end};
+ghost use Rattle.rio_recover.specs.Trees.{AreWholeBranches};
 
 use crate::RecoverFault;
 use crate::baskets::has_baskets;
@@ -50,6 +51,7 @@ fn whole_header<H: Host>(
         → StandsIn file r → r.head ≡ head.now → IfOk result (λ _. AreDataBytes r) }
     ensures baskets { IfOk result
         (λ found. IfSome found (λ tree. has_baskets keys.now.heads.now tree ≡ true)) }
+    ensures whole { IfOk result (λ found. IfSome found AreWholeBranches) }
     ensures calls { OnlyReads (H.view host.old) (H.view host.new) }
     ensures cause { IsRecoverCause (H.view host.old) (H.view host.new) result }
 {

@@ -191,7 +191,7 @@ lines_told : (trees : List KeptTree) (heads : List KeyHead) → item_lines (map 
 lines_told trees [] = refl
 lines_told trees (h ∷ heads) = ap (λ (l : List ℕ). item_line trees h ++ l) (lines_told trees heads)
 
-listing_is : (heads : List KeyHead) (trees : List KeptTree) (m : State) → AreItemsOfState heads trees m → item_listing_of trees heads ≡ text_of (items_listed (items_of m))
+pub listing_is : (heads : List KeyHead) (trees : List KeptTree) (m : State) → AreItemsOfState heads trees m → item_listing_of trees heads ≡ text_of (items_listed (items_of m))
 unfolding text_of item_listing_of
 listing_is heads trees m are =
     ap (λ (l : List ℕ). codes "ok ls" ++ numbered (length heads) ++ codes "\n" ++ l) (sym (lines_told trees heads))

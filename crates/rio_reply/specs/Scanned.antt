@@ -1,6 +1,8 @@
--- What is said of a scan: its first line, and a line of each row.
+-- What is said of a scan: its first line, and a line of each row; or of one that isn't read, why.
 use Rattle.std.specs.{Prelude.{◌≡◌, ℕ, ◌+◌, List, [], ◌∷◌, ◌++◌, codes, length, Bool, true, false, Result, Ok, if◌then◌else◌}, Fmt.{decimal}}
-use Rattle.rio_num.specs.{Printed.{name_text, numbered}, Reading.{◌>>=◌}}
+use Rattle.rio_num.specs.{Printed.{name_text, numbered, with_number}, Reading.{◌>>=◌}}
+use Rattle.rio_basket.specs.Texts.{basket_fault_text}
+use Rattle.rio_entry.specs.declared.lane.RowFault.{RowFault, TheVariants.{Basket, Entry}}
 use Rattle.rio_types.specs.declared.{class.Base.{Base}, class.ClassDef.{ClassDef}}
 use Rattle.rio_value.specs.declared.value.Value.{Value}
 use Rattle.rio_model.specs.{Mapping.{Mapped}, ValueText.{text_of_value}}
@@ -28,6 +30,16 @@ row_line_as classes asked n before row = row_seen_in classes (Some asked) row >>
 -- values that were had, and those behind them
 abbrev pub seen_behind : Row → Mapped Row → Mapped Row
 seen_behind before rest = rest >>= λ row. Ok (before ++ row)
+
+-- ---- a row that isn't read
+
+abbrev pub row_fault_text : RowFault → List ℕ
+row_fault_text (Basket fault) = basket_fault_text fault
+row_fault_text (Entry place) = with_number (codes "BadEntry") place
+
+-- NUMBER fault KIND
+abbrev pub row_fault_line : ℕ → RowFault → List ℕ
+row_fault_line n fault = decimal n ++ codes " fault " ++ row_fault_text fault ++ codes "\n"
 
 -- ---- laws
 

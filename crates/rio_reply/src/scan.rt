@@ -4,9 +4,10 @@ ghost use Rattle.rio_model.specs.declared.map_fault.MapFault.TheVariants.{NoMemo
 ghost use Rattle.rio_num.specs.Answers.{GivesUnless};
 ghost use Rattle.rio_step.specs.Refusing.{row_seen_by, row_seen_in};
 ghost use Rattle.rio_step.specs.ReplyText.{row_text};
-ghost use Rattle.rio_reply.specs.Scanned.{row_line, row_line_as, scan_start, seen_behind, values_behind};
+ghost use Rattle.rio_reply.specs.Scanned.{row_fault_line, row_fault_text, row_line, row_line_as, scan_start, seen_behind, values_behind};
 ghost use Rattle.rio_model.specs.Mapping.{as_version};
 
+use rio_entry::RowFault;
 use rio_map::as_version;
 use rio_model::MapFault;
 use rio_num::{Bytes, NoMemory};
@@ -114,4 +115,23 @@ pub fn put_row_line_as(
 {
     let seen = row_as(alloc, classes, asked, row)?;
     Ok(put_row_line(text, number, seen.as_slice())?)
+}
+
+fn put_fault_text(text: &mut Bytes, fault: RowFault) -> Result<(), NoMemory>
+    ensures { OnOk result (text.new.bytes ≡ text.old.bytes ++ row_fault_text fault) }
+{
+    match fault {
+        RowFault::Basket(fault) => fault.put_text(text),
+        RowFault::Entry { place } => text.put_with_number(b"BadEntry", place),
+    }
+}
+
+/// Puts the line of a row at the end that isn't read: its number and why.
+pub fn put_row_fault(text: &mut Bytes, number: u64, fault: RowFault) -> Result<(), NoMemory>
+    ensures { OnOk result (text.new.bytes ≡ text.old.bytes ++ row_fault_line number fault) }
+{
+    text.put_decimal(number)?;
+    text.put(b" fault ")?;
+    put_fault_text(text, fault)?;
+    text.put(b"\n")
 }

@@ -1,13 +1,11 @@
--- What is printed of a row: its values; or its number and why it isn't read any more, or can't be had any more in the form that is
--- asked, where the passes before found that it is.
+-- What is printed of a row: its values; or its number and why it can't be had any more in the form that is asked, where the
+-- passes before found that it is.
 use Rattle.std.specs.{Prelude.{ℕ, List, [], ◌∷◌, ◌++◌, codes, Option, Some, None, Ok, Err, Bool, false, if◌then◌else◌}, Fmt.{decimal}}
 use Rattle.rio_value.specs.declared.value.Value.{Value}
 use Rattle.rio_tree.specs.declared.refusal.BranchRefusal.{BranchRefusal}
 use Rattle.rio_model.specs.{Mapping.{Mapped}, ValueText.{text_of_value}}
 use Rattle.rio_model.specs.declared.map_fault.MapFault.{MapFault, TheVariants.{KindChanged, NoVersion, NoMemory as OutOfMemory}}
-use Rattle.rio_basket.specs.Texts.{basket_fault_text}
-use Rattle.rio_num.specs.Printed.{name_text, with_number}
-use Rattle.rio_entry.specs.declared.lane.RowFault.{RowFault, TheVariants.{Basket, Entry}}
+use Rattle.rio_num.specs.Printed.{name_text}
 use Rattle.rio_report.specs.RowForms.{row_text}
 
 -- ---- its values
@@ -26,16 +24,6 @@ first_after first (v ∷ vs) = false
 abbrev pub values_unrefused : Option BranchRefusal → List Value → List Value
 values_unrefused None vs = vs
 values_unrefused (Some refusal) vs = []
-
--- ---- why it isn't read
-
-abbrev pub row_fault_text : RowFault → List ℕ
-row_fault_text (Basket fault) = basket_fault_text fault
-row_fault_text (Entry place) = with_number (codes "BadEntry") place
-
--- NUMBER fault KIND
-abbrev pub row_fault_line : ℕ → RowFault → List ℕ
-row_fault_line entry fault = decimal entry ++ codes " fault " ++ row_fault_text fault ++ codes "\n"
 
 -- ---- of a row that can't be had
 

@@ -12,11 +12,12 @@ ghost use Rattle.rio_tree.specs.declared.head.Branch.{Branch as Branched};
 
 use crate::pieces::{hold_line, say_before};
 use crate::row_form::RowForm;
-use crate::scan_text::{put_row, put_row_fault};
+use crate::scan_text::{put_row, row_fault};
 use rio_close::ReportFault;
 use rio_entry::{BranchRefusals, FileTree, Lane, read_tree_row};
 use rio_host::Host;
 use rio_num::Bytes;
+use rio_reply::put_row_fault;
 use std::alloc::Global;
 
 /// No branch is refused that wasn't before.
@@ -72,7 +73,7 @@ fn put_row_line<H: Host>(
             text,
         )?;
     } else {
-        put_row_fault(text, entry, lanes)?;
+        put_row_fault(text, entry, row_fault(lanes))?;
     }
     Ok(())
 }

@@ -5,7 +5,7 @@ ghost use Rattle.rio_entry.specs.BranchRows.{read_values};
 ghost use Rattle.rio_entry.specs.RowFaults.{fault_of_lanes};
 ghost use Rattle.rio_report.specs.RowForms.{numbered_row, row_text};
 ghost use Rattle.rio_report.specs.RowTexts.{first_after, values_behind, values_unrefused};
-ghost use Rattle.rio_report.specs.RowTexts.{had_line, map_fault_text, row_fault_line, row_fault_text};
+ghost use Rattle.rio_report.specs.RowTexts.{had_line, map_fault_text};
 ghost use Rattle.rio_report.specs.Scan.{count_line, refused_line, refused_lines};
 ghost use Rattle.rio_model.specs.Lists.{separated};
 ghost use Rattle.rio_model.specs.ValueText.{text_of_value};
@@ -244,17 +244,8 @@ pub(crate) fn put_row(
     }
 }
 
-fn put_fault(text: &mut Bytes, fault: RowFault) -> Result<(), NoMemory>
-    ensures { OnOk result (text.new.bytes ≡ text.old.bytes ++ row_fault_text fault) }
-{
-    match fault {
-        RowFault::Basket(fault) => fault.put_text(text),
-        RowFault::Entry { place } => text.put_with_number(b"BadEntry", place),
-    }
-}
-
-// The first fault of the row.
-fn row_fault(lanes: &[Lane]) -> RowFault
+/// The first fault of a row that isn't read any more.
+pub(crate) fn row_fault(lanes: &[Lane]) -> RowFault
     ensures { result ≡ fault_of_lanes lanes.now }
 {
     for lane in lanes {
@@ -263,15 +254,4 @@ fn row_fault(lanes: &[Lane]) -> RowFault
         }
     }
     RowFault::Basket(BasketFault::BadLast { place: 0 })
-}
-
-/// Puts the line of a row at the end that isn't read any more: its number and the first fault.
-pub(crate) fn put_row_fault(text: &mut Bytes, entry: u64, lanes: &[Lane]) -> Result<(), NoMemory>
-    ensures { OnOk result (text.new.bytes ≡
-        text.old.bytes ++ row_fault_line entry (fault_of_lanes lanes.now)) }
-{
-    text.put_decimal(entry)?;
-    text.put(b" fault ")?;
-    put_fault(text, row_fault(lanes))?;
-    text.put(b"\n")
 }

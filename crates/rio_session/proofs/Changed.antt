@@ -4,9 +4,9 @@ use Rattle.std.proofs.{lemmas.Bool.{cases_lt}, lemmas.List.{append-nil}, lemmas.
 use Rattle.rio_host.specs.Host.{Any, Elapses, IsLawful, Longer, View}
 use Rattle.rio_host.proofs.{Images.{becomes_some, told_before}, Moments.{elapses_as}, ReadsLaws.{said_grows}}
 use Rattle.rio_chain.specs.{Becoming.{ChainBecomes}, Chains.{HasChain}, Segments.{IsChain, Link}, Stops.{KeepsFront}, declared.segment.Segment.{Segment}}
-use Rattle.rio_machine.specs.{State.{State}, declared.command.Command.{Command, TheVariants.{Class, Put, Delete}}}
+use Rattle.rio_machine.specs.{State.{State}, declared.command.Command.{Command, TheVariants.{Class, Put, Delete, Tree, Fill, Save}}}
 use Rattle.rio_machine.specs.declared.command.Outcome.{Outcome, TheVariants.{Accepted, Refused}}
-use Rattle.rio_state.specs.{Closing.{held_of}, KeyedRecords.{keyed_records}, Left.{HasOpenHead}, Reads.{AreRecordsOf}}
+use Rattle.rio_state.specs.{Closing.{held_with}, KeyedRecords.{keyed_records}, Left.{HasOpenHead}, Reads.{AreRecordsOf}, TreeLengths.{pending_in}}
 use Rattle.rio_step.specs.{Costs.{cost_of}, ReplyText.{text_of}, Runs.{saved_of}, Step.{Stepped, outcome_of, reply_to, state_behind}}
 use Rattle.rio_session.specs.{Behind.{FollowsStep, HasChanged, IsOfKeys, WritesNothing}, Causes.{StaysIfRefused}, Does.{Does}}
 use Rattle.rio_session.specs.Changing.{ChangedAndSaid, ChangedNotSaid, ChangesFile, ChangesInTime, Changing, IsBetween, IsReached}
@@ -23,12 +23,18 @@ abbrev pub is_writing : Command → Bool
 is_writing (Class class) = true
 is_writing (Put name v) = true
 is_writing (Delete name cycle) = true
+is_writing (Tree name branches) = true
+is_writing (Fill name row) = true
+is_writing (Save name) = true
 is_writing other = false
 
 reply_accepts : (m : State) (c : Command) → is_writing c ≡ true → outcome_of (reply_to m c) ≡ Accepted
 reply_accepts m (Class class) is = refl
 reply_accepts m (Put name v) is = refl
 reply_accepts m (Delete name cycle) is = refl
+reply_accepts m (Tree name branches) is = refl
+reply_accepts m (Fill name row) is = refl
+reply_accepts m (Save name) is = refl
 reply_accepts m other is = absurd cc
 
 -- such a command that is accepted writes something
@@ -36,6 +42,9 @@ never_nothing : (s : SessionState) (m : State) (c : Command) → is_writing c �
 never_nothing s m (Class class) is accepted nothing = let same : Accepted ≡ Refused nothing.0 = sym accepted ∙ nothing.1 in absurd cc
 never_nothing s m (Put name v) is accepted nothing = let same : Accepted ≡ Refused nothing.0 = sym accepted ∙ nothing.1 in absurd cc
 never_nothing s m (Delete name cycle) is accepted nothing = let same : Accepted ≡ Refused nothing.0 = sym accepted ∙ nothing.1 in absurd cc
+never_nothing s m (Tree name branches) is accepted nothing = let same : Accepted ≡ Refused nothing.0 = sym accepted ∙ nothing.1 in absurd cc
+never_nothing s m (Fill name row) is accepted nothing = let same : Accepted ≡ Refused nothing.0 = sym accepted ∙ nothing.1 in absurd cc
+never_nothing s m (Save name) is accepted nothing = let same : Accepted ≡ Refused nothing.0 = sym accepted ∙ nothing.1 in absurd cc
 never_nothing s m other is accepted nothing = absurd cc
 
 -- ---- what the session stands for then
@@ -54,15 +63,13 @@ module _ (s : SessionState) (m : State) (c : Command) (writing : is_writing c �
 
   -- the records at the end are those of the state after the command
   pub records_after : AreRecordsOf (keyed_records (all_done (changes_by s m c) h.links)) (saved_of (state_behind m c))
-  records_after =
-      subst (λ (l : List LinksChange). AreRecordsOf (keyed_records (all_done l h.links)) (saved_of (state_behind m c))) (take-length (changes_by s m c))
-      (takes.late (length (changes_by s m c)) takes.within (omega arith) passed)
+  records_after = (takes.ends passed).records
 
   held_after : (kept_by s m c).costs ≡ s.costs → (kept_by s m c).opened ≡ s.opened → min ((kept_by s m c).costs + cost_of m c) (2 ^ 64 - 1) < 2 ^ 64 - 1
-      → held_of after ≤ 3 * (kept_by s m c).opened + min ((kept_by s m c).costs + cost_of m c) (2 ^ 64 - 1) + 10000
+      → held_with (pending_in (state_behind m c)) after ≤ 3 * (kept_by s m c).opened + min ((kept_by s m c).costs + cost_of m c) (2 ^ 64 - 1) + 10000
   held_after costs opened =
-      subst (λ (x : ℕ × ℕ). min (x.0 + cost_of m c) (2 ^ 64 - 1) < 2 ^ 64 - 1 → held_of after ≤ 3 * x.1 + min (x.0 + cost_of m c) (2 ^ 64 - 1) + 10000) (λ i. (sym costs i, sym opened i))
-      (held_more (held_of h.links) (held_of after) (3 * s.opened) s.costs (cost_of m c) h.held (takes.ends passed).held)
+      subst (λ (x : ℕ × ℕ). min (x.0 + cost_of m c) (2 ^ 64 - 1) < 2 ^ 64 - 1 → held_with (pending_in (state_behind m c)) after ≤ 3 * x.1 + min (x.0 + cost_of m c) (2 ^ 64 - 1) + 10000) (λ i. (sym costs i, sym opened i))
+      (held_more (held_with (pending_in m) h.links) (held_with (pending_in (state_behind m c)) after) (3 * s.opened) s.costs (cost_of m c) h.held (takes.ends passed).held)
 
   pub state_after : (now : List ℕ) → IsOfKeys (kept_by s m c) (state_behind m c)
       → HasChain (all_done (changes_by s m c) h.links) (kept_by s m c).segments now → KeepsFront file now → HoldsState (with_cost (cost_of m c) (kept_by s m c)) (state_behind m c) now
@@ -77,6 +84,9 @@ module _ (s : SessionState) (m : State) (c : Command) (writing : is_writing c �
         keys = kept.keys;
         trees = kept.trees;
         items = kept.items;
+        fillable = kept.fillable;
+        rows = kept.rows;
+        opens = kept.opens;
         info = kept.info;
         name = kept.name ∙ h.name ∙ sym rest.name;
         count = kept.count;
@@ -116,7 +126,7 @@ module _ (p : Changing) (old new : View) (before after : SessionState) (lawful :
         (open_image s.file image before.nbytes_name s.state.links (links_then k) n s.state.head s.state.chain.chain front chain records).reads
 
     between : (image spoken : List ℕ) → IsBetween p s.file said s.state.links image spoken → Steps m (next_of before m c) said image spoken
-    between image spoken b = elim (cases_lt takes.turn b.k) [ inl late ↦ inr (after_turn late) | inr early ↦ inl (before_turn early) ]
+    between image spoken b = elim (cases_lt takes.turn b.k) [ inl late ↦ inr (after_turn (takes.late b.k late within passed)) | inr early ↦ before_turn early ]
       where
         chain_then : IsChain (links_then b.k) image
         chain_then = subst (λ (l : List LinksChange). IsChain (all_done (take b.k l) s.state.links) image) is.changes b.chain
@@ -127,24 +137,30 @@ module _ (p : Changing) (old new : View) (before after : SessionState) (lawful :
         within : b.k ≤ length (changes_by before m c)
         within = subst (λ (l : List LinksChange). b.k ≤ length l) is.changes b.within
 
-        -- no text is printed before the last change
-        before_turn : b.k ≤ takes.turn → IsOpenAs m image × (spoken ≡ said)
-        before_turn early = (
-          open_then image b.k m chain_then b.front (takes.early b.k early passed),
-          ⊎_elim
-              (λ (same : spoken ≡ said). same)
-              (λ (x : (b.k ≡ length p.changes) × ((n : ℕ) × (spoken ≡ said ++ take n p.text))). absurd (omega (arith, early, takes.within, x.0, ap length is.changes)))
-              b.spoken_is,
-        )
-
-        after_turn : takes.turn < b.k → IsOpenAs (next_of before m c).state image × ((n : ℕ) × (spoken ≡ said ++ take n (text_of (next_of before m c).reply)))
-        after_turn late = (
-          subst (λ (n : State). IsOpenAs n image) (sym (state_is m is)) (open_then image b.k (state_behind m c) chain_then b.front (takes.late b.k late within passed)),
+        after_turn : AreRecordsOf (keyed_records (links_then b.k)) (saved_of (state_behind m c)) → IsOpenAs (next_of before m c).state image × ((n : ℕ) × (spoken ≡ said ++ take n (text_of (next_of before m c).reply)))
+        after_turn records = (
+          subst (λ (n : State). IsOpenAs n image) (sym (state_is m is)) (open_then image b.k (state_behind m c) chain_then b.front records),
           ⊎_elim
               (λ (same : spoken ≡ said). (0, same ∙ sym (append-nil said)))
               (λ (x : (b.k ≡ length p.changes) × ((n : ℕ) × (spoken ≡ said ++ take n p.text))). (x.1.0, x.1.1 ∙ ap (λ (l : List ℕ). said ++ take x.1.0 l) (text_is m is)))
               b.spoken_is,
         )
+
+        -- behind the last change the records stand for the state after the command, also where none takes effect
+        at_end : b.k ≡ length p.changes → AreRecordsOf (keyed_records (links_then b.k)) (saved_of (state_behind m c))
+        at_end last =
+            let end : b.k ≡ length (changes_by before m c) = last ∙ ap length is.changes in
+            let all = subst (λ (n : ℕ). ArePassed before m c n s.state.links) end passed in
+            subst (λ (n : ℕ). AreRecordsOf (keyed_records (links_then n)) (saved_of (state_behind m c))) (sym end)
+            (subst (λ (l : List LinksChange). AreRecordsOf (keyed_records (all_done l s.state.links)) (saved_of (state_behind m c))) (sym (take-length (changes_by before m c))) (takes.ends all).records)
+
+        -- no text is printed before the last change
+        before_turn : b.k ≤ takes.turn → Steps m (next_of before m c) said image spoken
+        before_turn early =
+            ⊎_elim
+            (λ (same : spoken ≡ said). inl (open_then image b.k m chain_then b.front (takes.early b.k early passed), same))
+            (λ (x : (b.k ≡ length p.changes) × ((n : ℕ) × (spoken ≡ said ++ take n p.text))). inr (after_turn (at_end x.0)))
+            b.spoken_is
 
     change_steps : ChangesInTime p old new before → Elapses old new (Steps m (next_of before m c) said)
     change_steps time = elapses_as (Steps m (next_of before m c) said) (IsBetween p s.file said s.state.links) (time s.file said s.state.links s.holds s.said s.state.chain) between

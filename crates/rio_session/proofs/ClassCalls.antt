@@ -12,14 +12,14 @@ use Rattle.rio_chain.specs.{NewRecords.{IsNewRecord}, Placing.{file_end, place_o
 use Rattle.rio_chain.proofs.Records.{are_new_records}
 use Rattle.rio_machine.specs.{State.{State, empty_state}, declared.command.Command.{Command, TheVariants.{Bad, Class, Put, Delete, Tree, Fill, Save, Get, Scan, Ls}}}
 use Rattle.rio_machine.specs.{declared.command.Outcome.{Outcome, TheVariants.{Accepted, Refused}}, declared.refusal.Refusal.TheVariants.{Full}}
-use Rattle.rio_state.specs.Closing.{close_need, end_limit, is_full, padded_length}
+use Rattle.rio_state.specs.Closing.{end_limit, is_full, padded_length}
 use Rattle.rio_step.specs.{Costs.{info_size}, Refusing.{refusal_of, with_class}, ReplyText.{text_of}, Step.{Stepped, class_declared, outcome_of, refused}}
 use Rattle.rio_step.proofs.DeclaredLaws.{classes_stay_declared}
 use Rattle.rio_effect.specs.ClassRecord.{list_data, list_key_size, list_record, list_words, next_list_cycle}
 use Rattle.rio_effect.proofs.PutEffect.{padded_as}
 use Rattle.rio_judge.specs.{Judging.{CanBeDeclared, WorkCanBeDone}, declared.work.{AnyWork.TheVariants.{Item}, NewClass.{NewClass}, Work.TheVariants.{Class as Declaring}}}
-use Rattle.rio_recover.specs.{Classes.{HasListCycle}, Closable.{kept_with}}
-use Rattle.rio_session.specs.{Behind.{IsOfKeys}, Changing.{ChangesFile}, Doable.{CanBeDone, IsToDo}, Does.{Does}, Effects.{IsChangeOf, TakesEffect}}
+use Rattle.rio_recover.specs.Classes.{HasListCycle}
+use Rattle.rio_session.specs.{Behind.{IsOfKeys}, Changing.{ChangesFile}, Due.{need_with}, Doable.{CanBeDone, IsToDo}, Does.{Does}, Effects.{IsChangeOf, TakesEffect}}
 use Rattle.rio_session.specs.{Lists.{CanBeListedAt, listing_at, with_new}, Says.{SaysReply}, Sound.{IsSoundState}}
 use Rattle.rio_session.specs.{Session.{HoldsState, IsReady, LacksRoomIfFull, SessionState, StandsFor, next_of, with_cost}, SessionState.{baskets_of}, declared.fault.SessionFault.{SessionFault}}
 use Rattle.rio_session.proofs.{Changed.{does_change}, ClassEffects.{class_takes_effect_on}, Refused.{step_accepted}, Replies.{does_says}, States.{of_keys}}
@@ -107,7 +107,7 @@ module _ (s : SessionState) (d : NewClass) (can : CanBeDone s (Declaring d)) (li
     unfolding list_record
     list_long = new.size ∙ padded_as (key_size words) (length contents) d.length data_size
 
-  module _ (n need : ℕ) (n_is : n ≡ padded_length (list_key_size + d.length)) (need_is : need ≡ close_need (kept_with s.name s.heads (2 + length s.heads + length (baskets_of s)))) where
+  module _ (n need : ℕ) (n_is : n ≡ padded_length (list_key_size + d.length)) (need_is : need ≡ need_with s.name s.heads (2 + length s.heads + length (baskets_of s)) s.trees) where
     sized : n ≡ padded_length (list_key_size + info_size (s.classes ++ d.class ∷ []))
     sized = n_is ∙ ap (λ (k : ℕ). padded_length (list_key_size + k)) (can.size_is 0)
 
@@ -134,7 +134,7 @@ module _ (s : SessionState) (d : NewClass) (can : CanBeDone s (Declaring d)) (so
     written = its.written 0 ∙ ap (λ (k : ClassDef). info_size (s.classes ++ k ∷ [])) its.class
 
     class_does : (place : ℕ) (text : List ℕ) → place < 2 ^ 32 → text ≡ text_of (class_declared d.class.name d.class.version) → place ≡ place_of s.segments (padded_length (list_key_size + d.length))
-        → is_full s.segments (padded_length (list_key_size + d.length) ∷ []) (close_need (kept_with s.name s.heads (2 + length s.heads + length (baskets_of s)))) ≡ false
+        → is_full s.segments (padded_length (list_key_size + d.length) ∷ []) (need_with s.name s.heads (2 + length s.heads + length (baskets_of s)) s.trees) ≡ false
         → ChangesFile (listing_at (with_new s d) place text cost) old new s s' answer → IfOk answer (λ outcome. outcome ≡ Accepted) → Does old new s s' (Class class) answer
     class_does place text low text_is at room changes is =
         does_change (listing_at (with_new s d) place text cost) old new s s' law ready (Class class) answer fresh fresh law' changes refl is_change takes is
@@ -150,14 +150,14 @@ module _ (s : SessionState) (d : NewClass) (can : CanBeDone s (Declaring d)) (so
         is_change : (m : State) → IsOfKeys s m → IsChangeOf (listing_at (with_new s d) place text cost) s m (Class class)
         is_change m keys =
             subst (λ (k : ClassDef). IsChangeOf (listing_at (record s { classes = s.classes ++ k ∷ [] }) place text cost) s m (Class class)) (sym its.class)
-            (class_is_change s m keys (sound.kept fresh).sized class (free m keys) d.length written place long room at text cost said cost_is)
+            (class_is_change s m keys (sound.kept fresh).closable.sized class (free m keys) d.length written place long room at text cost said cost_is)
 
         takes : (m : State) (file : List ℕ) (h : HoldsState s m file) → TakesEffect s m (Class class) h.links
         takes m file h = class_takes_effect_on s m file h sound fresh soon class stated (is_change m (of_keys s m file h)).free
 
-    module _ (full : is_full s.segments (padded_length (list_key_size + d.length) ∷ []) (close_need (kept_with s.name s.heads (2 + length s.heads + length (baskets_of s)))) ≡ true) where
+    module _ (full : is_full s.segments (padded_length (list_key_size + d.length) ∷ []) (need_with s.name s.heads (2 + length s.heads + length (baskets_of s)) s.trees) ≡ true) where
       outcome_is : (m : State) → IsOfKeys s m → outcome_of (next_of s m (Class class)).reply ≡ Refused (Full (file_end s.segments) (padded_length (list_key_size + d.length)))
-      outcome_is m keys = class_full_outcome s m keys (sound.kept fresh).sized class (free m keys) d.length written full
+      outcome_is m keys = class_full_outcome s m keys (sound.kept fresh).closable.sized class (free m keys) d.length written full
 
       same_full : (a : Result Outcome SessionFault) → IfOk a (λ outcome. outcome ≡ Refused (Full (file_end s.segments) (padded_length (list_key_size + d.length))))
           → IfOk a (λ outcome. (m : State) → IsOfKeys s m → outcome ≡ outcome_of (next_of s m (Class class)).reply)
@@ -166,20 +166,20 @@ module _ (s : SessionState) (d : NewClass) (can : CanBeDone s (Declaring d)) (so
 
       lacks_full : (m : State) (said : List ℕ) → StandsFor old s m said → LacksRoomIfFull (with_cost cost s) (outcome_of (next_of s m (Class class)).reply)
       lacks_full m said st =
-          let lacks = class_full_lacks s m st.file st.state (sound.kept fresh).count d.length full cost cost_is in
+          let lacks = class_full_lacks s m st.file st.state (sound.kept fresh) d.length full cost cost_is in
           subst (LacksRoomIfFull (with_cost cost s)) (sym (outcome_is m (of_keys s m st.file st.state))) lacks
 
       class_full_does : SaysReply (text_of (refused (Full (file_end s.segments) (padded_length (list_key_size + d.length))))) cost old new s s' answer
           → IfOk answer (λ outcome. outcome ≡ Refused (Full (file_end s.segments) (padded_length (list_key_size + d.length)))) → Does old new s s' (Class class) answer
       class_full_does says is =
           does_says old new s s' (text_of (refused (Full (file_end s.segments) (padded_length (list_key_size + d.length))))) cost law law' ready (Class class) answer fresh says
-          (λ spoken m keys. class_full_still s m keys (sound.kept fresh).sized class (free m keys) d.length written full cost cost_is)
-          (λ spoken m said st. let keys = of_keys s m st.file st.state in class_full_told s m keys (sound.kept fresh).sized class (free m keys) d.length written full)
+          (λ spoken m keys. class_full_still s m keys (sound.kept fresh).closable.sized class (free m keys) d.length written full cost cost_is)
+          (λ spoken m said st. let keys = of_keys s m st.file st.state in class_full_told s m keys (sound.kept fresh).closable.sized class (free m keys) d.length written full)
           (same_full answer is) (λ spoken. lacks_full)
 
   -- ---- by the work
 
-  module _ (n need : ℕ) (n_is : n ≡ padded_length (list_key_size + d.length)) (need_is : need ≡ close_need (kept_with s.name s.heads (2 + length s.heads + length (baskets_of s)))) (c : Command) (todo : IsToDo s c (Item (Declaring d))) where
+  module _ (n need : ℕ) (n_is : n ≡ padded_length (list_key_size + d.length)) (need_is : need ≡ need_with s.name s.heads (2 + length s.heads + length (baskets_of s)) s.trees) (c : Command) (todo : IsToDo s c (Item (Declaring d))) where
     abbrev asked : ClassDef
     asked = (is_class s.classes s.heads c d todo.can.0).0
 
@@ -189,7 +189,7 @@ module _ (s : SessionState) (d : NewClass) (can : CanBeDone s (Declaring d)) (so
     to : IsToDo s (Class (is_class s.classes s.heads c d todo.can.0).0) (Item (Declaring d))
     to = subst (λ (x : Command). IsToDo s x (Item (Declaring d))) is todo
 
-    room_is : (b : Bool) → is_full s.segments (n ∷ []) need ≡ b → is_full s.segments (padded_length (list_key_size + d.length) ∷ []) (close_need (kept_with s.name s.heads (2 + length s.heads + length (baskets_of s)))) ≡ b
+    room_is : (b : Bool) → is_full s.segments (n ∷ []) need ≡ b → is_full s.segments (padded_length (list_key_size + d.length) ∷ []) (need_with s.name s.heads (2 + length s.heads + length (baskets_of s)) s.trees) ≡ b
     room_is b room = subst (λ (x : ℕ × ℕ). is_full s.segments (x.0 ∷ []) x.1 ≡ b) (λ i. (n_is i, need_is i)) room
 
     pub class_is_done : (place : ℕ) (text : List ℕ) → place < 2 ^ 32 → text ≡ text_of (class_declared d.class.name d.class.version) → place ≡ place_of s.segments n → is_full s.segments (n ∷ []) need ≡ false

@@ -5,17 +5,17 @@ use Rattle.rio_types.specs.declared.class.ClassDef.{ClassDef}
 use Rattle.rio_chain.specs.{Changes.{with_record}, Placing.{file_end, place_of, record_count, with_segment}}
 use Rattle.rio_machine.specs.{State.{State}, declared.command.Command.TheVariants.{Class}}
 use Rattle.rio_machine.specs.{declared.command.Outcome.TheVariants.{Refused}, declared.refusal.Refusal.{Refusal, TheVariants.{Full}}}
-use Rattle.rio_state.specs.Closing.{close_need, free_length, held_of, is_full, list_length, padded_length}
+use Rattle.rio_state.specs.{Closing.{KeptRecords, free_length, held_with, is_full, list_length, padded_length}, Sizes.{close_size}, TreeLengths.{pending_in}}
 use Rattle.rio_step.specs.{Costs.{accepted_cost, cost_of, info_size, room_limit}, KeptItems.{AreItemsOfState}, Refusing.{FullMark, refusal_of, with_class}, ReplyText.{text_of}}
 use Rattle.rio_step.specs.Step.{Stepped, class_declared, outcome_of, refused, state_behind}
 use Rattle.rio_effect.specs.ClassRecord.{key_of_class, list_key, list_key_size, list_record, next_list_cycle, record_of_class}
 use Rattle.rio_effect.proofs.FileChanges.{class_length}
-use Rattle.rio_recover.specs.Closable.{is_sized, kept_with, list_count}
+use Rattle.rio_recover.specs.Closable.{is_sized}
 use Rattle.rio_session.specs.{Behind.{IsOfKeys}, Effects.{IsChangeOf}, Kept.{LinksChange, changes_by, kept_by, place_of_class, released_link, released_segment}}
-use Rattle.rio_session.specs.{Lists.{listing_at}}
+use Rattle.rio_session.specs.{Due.{IsClosableWith, due_of, kept_records, need_with}, Lists.{listing_at}}
 use Rattle.rio_session.specs.{Marks.{command_lengths, mark_of_command, state_need}, Session.{HoldsState, next_of}, SessionState.{SessionState, baskets_of, kept_trees}}
-use Rattle.rio_session.proofs.{Lacking.{held_most, lacking, sum_two}}
-use Rattle.rio_session.proofs.{FileNeeds.{mark_by, mark_by_kept}, Needs.{need_by_keys}, Places.{end_most, full_is, sum_one}}
+use Rattle.rio_session.proofs.{FilledFiles.{filled_now, held_most}, FillSums.{due_baskets, need_by_due}, Lacking.{lacking}}
+use Rattle.rio_session.proofs.{FileNeeds.{mark_by, mark_by_kept}, Needs.{baskets_counted, need_by_keys}, Places.{end_most, full_is, sum_one}}
 use Rattle.rio_session.proofs.{Refused.{changes_refused, kept_refused, refused_full, step_refused}, Replies.{IsStill}}
 
 -- the objects and trees stay
@@ -31,7 +31,7 @@ module _ (s : SessionState) (m : State) (keys : IsOfKeys s m) (sized : list_all 
   n = padded_length (list_key_size + size)
 
   abbrev need : ℕ
-  need = close_need (kept_with s.name s.heads (2 + length s.heads + length (baskets_of s)))
+  need = need_with s.name s.heads (2 + length s.heads + length (baskets_of s)) s.trees
 
   classes_same : with_class s.classes class ≡ with_class m.classes class
   classes_same = ap (λ (cs : List ClassDef). with_class cs class) (sym keys.classes)
@@ -39,10 +39,12 @@ module _ (s : SessionState) (m : State) (keys : IsOfKeys s m) (sized : list_all 
   size_is : size ≡ info_size (with_class m.classes class)
   size_is = written ∙ ap info_size classes_same
 
-  need_is : state_need s.name 1 (length (baskets_of s)) (state_behind m (Class class)) ≡ need
-  need_is = need_by_keys s.heads (kept_trees s) (state_behind m (Class class)) (class_stands s m keys class) keys.trees sized s.name 1 (length (baskets_of s))
+  need_is : state_need s.name 1 s.trees (state_behind m (Class class)) ≡ need
+  need_is =
+      need_by_keys s.heads (kept_trees s) (state_behind m (Class class)) (class_stands s m keys class) keys.trees sized s.name 1 s.trees
+      ∙ ap (λ (k : ℕ). need_with s.name s.heads (2 + length s.heads + k) s.trees) (baskets_counted s.trees)
 
-  lengths_are : command_lengths m (Class class) ≡ padded_length (list_key_size + size) ∷ []
+  lengths_are : command_lengths s m (Class class) ≡ padded_length (list_key_size + size) ∷ []
   unfolding command_lengths
   lengths_are = ap (λ (k : ℕ). padded_length (list_key_size + k) ∷ []) (sym size_is)
 
@@ -52,10 +54,10 @@ module _ (s : SessionState) (m : State) (keys : IsOfKeys s m) (sized : list_all 
   abbrev told_by : Bool → Option FullMark
   told_by b = if b then Some (record { end = file_end s.segments; wanted = sum (padded_length (list_key_size + size) ∷ []) }) else None
 
-  pub class_mark_none : is_full s.segments (padded_length (list_key_size + size) ∷ []) (close_need (kept_with s.name s.heads (2 + length s.heads + length (baskets_of s)))) ≡ false → mark_of_command s m (Class class) ≡ None
+  pub class_mark_none : is_full s.segments (padded_length (list_key_size + size) ∷ []) (need_with s.name s.heads (2 + length s.heads + length (baskets_of s)) s.trees) ≡ false → mark_of_command s m (Class class) ≡ None
   class_mark_none e = mark_is ∙ ap told_by e
 
-  pub class_mark_full : is_full s.segments (padded_length (list_key_size + size) ∷ []) (close_need (kept_with s.name s.heads (2 + length s.heads + length (baskets_of s)))) ≡ true
+  pub class_mark_full : is_full s.segments (padded_length (list_key_size + size) ∷ []) (need_with s.name s.heads (2 + length s.heads + length (baskets_of s)) s.trees) ≡ true
       → mark_of_command s m (Class class) ≡ Some (record { end = file_end s.segments; wanted = padded_length (list_key_size + size) })
   class_mark_full e = mark_is ∙ ap told_by e ∙ ap (λ (k : ℕ). let x : Option FullMark = Some (record { end = file_end s.segments; wanted = k }) in x) (sum_one n)
 
@@ -66,7 +68,7 @@ module _ (s : SessionState) (m : State) (keys : IsOfKeys s m) (sized : list_all 
   -- ---- where there is room
 
   module _ (place : ℕ) (long : length (list_record place s.datime (next_list_cycle s.info) (with_class s.classes class)) ≡ padded_length (list_key_size + size))
-      (room : is_full s.segments (padded_length (list_key_size + size) ∷ []) (close_need (kept_with s.name s.heads (2 + length s.heads + length (baskets_of s)))) ≡ false)
+      (room : is_full s.segments (padded_length (list_key_size + size) ∷ []) (need_with s.name s.heads (2 + length s.heads + length (baskets_of s)) s.trees) ≡ false)
       (at : place ≡ place_of s.segments (padded_length (list_key_size + size))) where
     abbrev own : ℕ
     own = place_of_class s m class
@@ -113,7 +115,7 @@ module _ (s : SessionState) (m : State) (keys : IsOfKeys s m) (sized : list_all 
 
   -- ---- where there is none
 
-  module _ (full : is_full s.segments (padded_length (list_key_size + size) ∷ []) (close_need (kept_with s.name s.heads (2 + length s.heads + length (baskets_of s)))) ≡ true) where
+  module _ (full : is_full s.segments (padded_length (list_key_size + size) ∷ []) (need_with s.name s.heads (2 + length s.heads + length (baskets_of s)) s.trees) ≡ true) where
     refused_is : refusal_of m (Class class) (mark_of_command s m (Class class)) ≡ Some (Full (file_end s.segments) (padded_length (list_key_size + size)))
     refused_is = ap (refusal_of m (Class class)) (class_mark_full full) ∙ refused_full m (Class class) (record { end = file_end s.segments; wanted = padded_length (list_key_size + size) }) free
 
@@ -136,16 +138,27 @@ module _ (s : SessionState) (m : State) (keys : IsOfKeys s m) (sized : list_all 
 
 -- ---- on a file
 
-module _ (s : SessionState) (m : State) (file : List ℕ) (h : HoldsState s m file) (count : record_count s.segments ≡ 1 + list_count s.info + length s.heads + length (baskets_of s)) (size : ℕ)
-    (full : is_full s.segments (padded_length (list_key_size + size) ∷ []) (close_need (kept_with s.name s.heads (2 + length s.heads + length (baskets_of s)))) ≡ true) where
-  need_most : close_need (kept_with s.name s.heads (2 + length s.heads + length (baskets_of s))) ≤ list_length (kept_with s.name s.heads (record_count s.segments)) + 3 + (free_length (kept_with s.name s.heads (record_count s.segments)) + 13)
-  unfolding close_need
-  need_most = omega (arith, sum_two padded_length (list_length (kept_with s.name s.heads (2 + length s.heads + length (baskets_of s)))) (free_length (kept_with s.name s.heads (2 + length s.heads + length (baskets_of s)))), count)
+module _ (s : SessionState) (m : State) (file : List ℕ) (h : HoldsState s m file) (kept : IsClosableWith s.segments s.heads s.trees s.info s.name) (size : ℕ)
+    (full : is_full s.segments (padded_length (list_key_size + size) ∷ []) (need_with s.name s.heads (2 + length s.heads + length (baskets_of s)) s.trees) ≡ true) where
+  abbrev mine : KeptRecords
+  mine = kept_records s.name s.heads (record_count s.segments) s.trees
+
+  need_most : need_with s.name s.heads (2 + length s.heads + length (baskets_of s)) s.trees ≤ (due_of s.trees).bytes + (list_length mine + 3 + (free_length mine + 13))
+  unfolding close_size
+  need_most = omega (arith, need_by_due s.name s.heads (2 + length s.heads + length (baskets_of s)) s.trees, due_baskets s.trees, kept.closable.count)
 
   key_long : list_key_size ≡ 64
   key_long = refl
 
   -- then the costs with that of the command pass what there is room for
   pub class_full_lacks : (cost : ℕ) → cost ≡ 100 + size → room_limit < 3 * s.opened + min (s.costs + cost) (2 ^ 64 - 1)
-  class_full_lacks cost is = lacking (3 * s.opened) s.costs cost (held_of h.links) h.held
-      (omega (arith, held_most s m file h count, need_most, full_is s.segments (padded_length (list_key_size + size)) (close_need (kept_with s.name s.heads (2 + length s.heads + length (baskets_of s)))) full, end_most (padded_length (list_key_size + size)) s.segments, key_long, is))
+  class_full_lacks cost is = lacking (3 * s.opened) s.costs cost (held_with (pending_in m) h.links) h.held
+      (omega (
+        arith,
+        held_most s m h.links (filled_now s m file h kept) (sym h.chain.same),
+        need_most,
+        full_is s.segments (padded_length (list_key_size + size)) (need_with s.name s.heads (2 + length s.heads + length (baskets_of s)) s.trees) full,
+        end_most (padded_length (list_key_size + size)) s.segments,
+        key_long,
+        is,
+      ))

@@ -52,7 +52,7 @@ end_least from (Record p k ∷ segments) = omega (arith, end_least (from + k) se
 end_least from (Gap p k ∷ segments) = omega (arith, end_least (from + k) segments)
 
 -- a record begins before END
-begins_low : (from place : ℕ) (segments : List Segment) → AreAdjacent from segments → list_any (begins_at place) segments ≡ true → place ≤ segments_end from segments
+pub begins_low : (from place : ℕ) (segments : List Segment) → AreAdjacent from segments → list_any (begins_at place) segments ≡ true → place ≤ segments_end from segments
 begins_low from place [] shape e = absurd cc
 begins_low from place (Gap p k ∷ segments) shape e = begins_low (from + k) place segments shape.1 e
 begins_low from place (Record p k ∷ segments) shape e = by (p == place) refl (begins_low (from + k) place segments shape.1) e

@@ -12,15 +12,15 @@ use Rattle.rio_machine.specs.declared.command.Command.{Command, TheVariants.{Bad
 use Rattle.rio_machine.specs.{declared.command.Outcome.{Outcome, TheVariants.{Accepted, Refused}}, declared.refusal.Refusal.{Refusal, TheVariants.{Full}}}
 use Rattle.rio_chain.specs.declared.record.NewRecord.{NewRecord}
 use Rattle.rio_reply.specs.Told.{item_listing_of}
-use Rattle.rio_state.specs.Closing.{close_need, is_full, padded_length}
+use Rattle.rio_state.specs.Closing.{is_full, padded_length}
 use Rattle.rio_step.specs.{Costs.{cost_of, value_size}, Refusing.{meant_object, refusal_of}, ReplyText.{text_of}, Step.{object_put, outcome_of, refused}}
 use Rattle.rio_judge.specs.{Judging.{IsStep, WorkCanBeDone}, Trees.{IsJudgementOfItems}}
 use Rattle.rio_judge.specs.declared.work.{AnyWork.TheVariants.{Item}, JudgedWithTrees.TheVariants.{Accepted as Judgement, Refused as RefusalOf}}
 use Rattle.rio_judge.specs.declared.work.{StoredObject.{StoredObject}, Work.TheVariants.{Put as Storing, Get as Telling, Ls as Listing}}
 use Rattle.rio_effect.specs.ObjectRecord.{key_of_put}
 use Rattle.rio_model.specs.StateClasses.{StateClasses}
-use Rattle.rio_recover.specs.Closable.{IsClosable, is_sized, kept_with}
-use Rattle.rio_session.specs.{Behind.{IsOfKeys}, Changing.{ChangesFile}, Doable.{IsToDo}, Does.{Does}, Causes.{IsSaid}, Effects.{IsChangeOf, TakesEffect}, Gets.{TellsObject}, Sound.{IsSoundState}}
+use Rattle.rio_recover.specs.Closable.{is_sized}
+use Rattle.rio_session.specs.{Behind.{IsOfKeys}, Changing.{ChangesFile}, Due.{IsClosableWith, need_with}, Doable.{IsToDo}, Does.{Does}, Causes.{IsSaid}, Effects.{IsChangeOf, TakesEffect}, Gets.{TellsObject}, Sound.{IsSoundState}}
 use Rattle.rio_session.specs.{Puts.{IsStoredRecord, putting}, Says.{SaysReply}}
 use Rattle.rio_session.specs.{Session.{HoldsState, IsReady, LacksRoomIfFull, SessionState, StandsFor, next_of, with_cost}, declared.fault.SessionFault.{SessionFault}}
 use Rattle.rio_session.proofs.GetSteps.{IsSaidOf, get_lacks, get_plain, get_said, get_still, some_of}
@@ -28,7 +28,7 @@ use Rattle.rio_session.proofs.OtherSteps.{ls_outcome, ls_still, ls_told, refused
 use Rattle.rio_session.proofs.{Changed.{does_change}, PutEffects.{put_takes_effect_on}}
 use Rattle.rio_session.proofs.PutSteps.{full_lacks, full_outcome, full_still, full_told, key_class, key_name, key_sized, put_is_change}
 use Rattle.rio_session.proofs.{Refused.{cost_accepted}, Replies.{IsOutcomeOf, IsStill, does_reply, does_says}, States.{of_keys}}
-use Rattle.rio_session.specs.SessionState.{baskets_of, kept_trees}
+use Rattle.rio_session.specs.SessionState.{kept_trees}
 
 -- ---- which command it is
 
@@ -154,23 +154,23 @@ module _ (old new : View) (s s' : SessionState) (law : IsLawful old) (law' : IsL
 
   -- ---- put
 
-  module _ (v : Value) (o : StoredObject) (n need cost : ℕ) (classes : StateClasses s.classes) (kept : IsClosable s.segments s.heads s.info (baskets_of s) s.name)
+  module _ (v : Value) (o : StoredObject) (n need cost : ℕ) (classes : StateClasses s.classes) (kept : IsClosableWith s.segments s.heads s.trees s.info s.name)
       (named : is_item_text o.name ≡ true) (soon : s.datime < 2 ^ 32) (judged : IsJudgementOfItems s.classes s.heads (kept_trees s) (Put o.name v) (Judgement (Item (Storing o)))) (unused : head_of o.name (Some o.cycle) s.heads ≡ None)
-      (n_is : n ≡ padded_length (head_length o.class o.name + o.length)) (need_is : (h : KeyHead) → is_sized h ≡ true → h.class ≡ o.class → h.name ≡ o.name → need ≡ close_need (kept_with s.name (with_head h s.heads) (record_count s.segments + 1)))
+      (n_is : n ≡ padded_length (head_length o.class o.name + o.length)) (need_is : (h : KeyHead) → is_sized h ≡ true → h.class ≡ o.class → h.name ≡ o.name → need ≡ need_with s.name (with_head h s.heads) (record_count s.segments + 1) s.trees)
       (cost_is : cost ≡ 500 + o.length) where
     its : (m : State) → IsOfKeys s m → (refusal_of m (Put o.name v) None ≡ None) × IsStep m v o
     its m keys = let j = judged m keys.classes keys.keys in (j.0, j.1.1)
 
     abbrev room_of : Bool → ℕ → State → Type 0
-    room_of b place m = is_full s.segments (padded_length (head_length o.class o.name + o.length) ∷ []) (close_need (kept_with s.name (with_head (key_of_put m place s.datime o.name v) s.heads) (record_count s.segments + 1))) ≡ b
+    room_of b place m = is_full s.segments (padded_length (head_length o.class o.name + o.length) ∷ []) (need_with s.name (with_head (key_of_put m place s.datime o.name v) s.heads) (record_count s.segments + 1) s.trees) ≡ b
 
     room_is : (b : Bool) (place : ℕ) → place < 2 ^ 32 → is_full s.segments (n ∷ []) need ≡ b → (m : State) (keys : IsOfKeys s m) → room_of b place m
     room_is b place low is m keys =
         let j = its m keys in
         let k = need_is (key_of_put m place s.datime o.name v)
-        (key_sized s m keys classes kept.count kept.sized v o place low soon named j.0 j.1 unused)
-        (key_class s m keys classes kept.count kept.sized v o place low soon named j.0 j.1 unused)
-        (key_name s m keys classes kept.count kept.sized v o place low soon named j.0 j.1 unused) in
+        (key_sized s m keys classes kept.closable.count kept.closable.sized v o place low soon named j.0 j.1 unused)
+        (key_class s m keys classes kept.closable.count kept.closable.sized v o place low soon named j.0 j.1 unused)
+        (key_name s m keys classes kept.closable.count kept.closable.sized v o place low soon named j.0 j.1 unused) in
         subst (λ (x : ℕ × ℕ). is_full s.segments (x.0 ∷ []) x.1 ≡ b) (λ i. (n_is i, k i)) is
 
     pub put_does : (place : ℕ) (made : NewRecord) (text : List ℕ) → place < 2 ^ 32 → IsStoredRecord s place o made → text ≡ text_of (object_put o.name o.cycle)
@@ -181,7 +181,7 @@ module _ (old new : View) (s s' : SessionState) (law : IsLawful old) (law' : IsL
         is_change : (m : State) → IsOfKeys s m → IsChangeOf (putting s made text cost) s m (Put o.name v)
         is_change m keys =
             let j = its m keys in
-            put_is_change s m keys classes kept.count kept.sized v o place low soon named j.0 j.1 unused made r (room_is false place low room m keys) (at ∙ ap (place_of s.segments) n_is) text cost text_is cost_is
+            put_is_change s m keys classes kept.closable.count kept.closable.sized v o place low soon named j.0 j.1 unused made r (room_is false place low room m keys) (at ∙ ap (place_of s.segments) n_is) text cost text_is cost_is
 
         takes : (m : State) (file : List ℕ) (h : HoldsState s m file) → TakesEffect s m (Put o.name v) h.links
         takes m file h = put_takes_effect_on s m file h (record { classes = classes; kept = λ f. kept }) fresh soon o.name v named (its m (of_keys s m file h)).0
@@ -192,7 +192,7 @@ module _ (old new : View) (s s' : SessionState) (law : IsLawful old) (law' : IsL
     same_full (Ok outcome) room is = λ m keys.
         let j = its m keys in
         is ∙ ap (λ (k : ℕ). Refused (Full (file_end s.segments) k)) n_is
-        ∙ sym (full_outcome s m keys classes kept.count kept.sized v o 0 (omega arith) soon named j.0 j.1 unused (room_is true 0 (omega arith) room m keys))
+        ∙ sym (full_outcome s m keys classes kept.closable.count kept.closable.sized v o 0 (omega arith) soon named j.0 j.1 unused (room_is true 0 (omega arith) room m keys))
 
     lacks_full : head_length o.class o.name ≤ 229 → is_full s.segments (n ∷ []) need ≡ true
         → (m : State) (said : List ℕ) → StandsFor old s m said → LacksRoomIfFull (with_cost cost s) (outcome_of (next_of s m (Put o.name v)).reply)
@@ -200,8 +200,8 @@ module _ (old new : View) (s s' : SessionState) (law : IsLawful old) (law' : IsL
         let keys = of_keys s m st.file st.state in
         let j = its m keys in
         let full = room_is true 0 (omega arith) room m keys in
-        let lacks = full_lacks s m st.file st.state classes kept.count kept.sized v o 0 (omega arith) soon named j.0 j.1 unused full cost cost_is short in
-        subst (LacksRoomIfFull (with_cost cost s)) (sym (full_outcome s m keys classes kept.count kept.sized v o 0 (omega arith) soon named j.0 j.1 unused full)) lacks
+        let lacks = full_lacks s m st.file st.state classes kept v o 0 (omega arith) soon named j.0 j.1 unused full cost cost_is short in
+        subst (LacksRoomIfFull (with_cost cost s)) (sym (full_outcome s m keys classes kept.closable.count kept.closable.sized v o 0 (omega arith) soon named j.0 j.1 unused full)) lacks
 
     pub full_does : head_length o.class o.name ≤ 229 → is_full s.segments (n ∷ []) need ≡ true → SaysReply (text_of (refused (Full (file_end s.segments) n))) cost old new s s' answer
         → IfOk answer (λ outcome. outcome ≡ Refused (Full (file_end s.segments) n)) → Does old new s s' (Put o.name v) answer
@@ -213,11 +213,11 @@ module _ (old new : View) (s s' : SessionState) (law : IsLawful old) (law' : IsL
         still spoken m keys =
             let j = its m keys in
             let costs : cost ≡ cost_of m (Put o.name v) = cost_is ∙ ap (λ (k : ℕ). 500 + k) (j.1.written ∙ ap (λ (w : Value). value_size m.classes w) j.1.value) ∙ sym (cost_accepted m (Put o.name v) j.0) in
-            full_still s m keys classes kept.count kept.sized v o 0 (omega arith) soon named j.0 j.1 unused (room_is true 0 (omega arith) room m keys) cost costs
+            full_still s m keys classes kept.closable.count kept.closable.sized v o 0 (omega arith) soon named j.0 j.1 unused (room_is true 0 (omega arith) room m keys) cost costs
 
         told : IsSaid answer → (m : State) (said : List ℕ) → StandsFor old s m said → text_of (refused (Full (file_end s.segments) n)) ≡ text_of (next_of s m (Put o.name v)).reply
         told spoken m said st =
             let keys = of_keys s m st.file st.state in
             let j = its m keys in
             ap (λ (k : ℕ). text_of (refused (Full (file_end s.segments) k))) n_is
-            ∙ full_told s m keys classes kept.count kept.sized v o 0 (omega arith) soon named j.0 j.1 unused (room_is true 0 (omega arith) room m keys)
+            ∙ full_told s m keys classes kept.closable.count kept.closable.sized v o 0 (omega arith) soon named j.0 j.1 unused (room_is true 0 (omega arith) room m keys)

@@ -1,5 +1,5 @@
 -- The records that a file has after a command are those that the definition of runs tells.
-use Rattle.std.proofs.{Common.{◌≡◌, ℕ, ◌<◌, ◌^◌, List, [], Option, Some, None, Result, Ok, Err, true, false, refl, sym, ap, subst, ◌∙◌}, lemmas.Option.{same_Some}}
+use Rattle.std.proofs.{Common.{◌≡◌, ℕ, ◌<◌, ◌^◌, List, [], Option, Some, None, Result, Ok, Err, false, refl, sym, ap, subst, ◌∙◌}, lemmas.Option.{same_Some}}
 use Rattle.std.specs.Result.{OnOk}
 use Rattle.rio_host.specs.Host.{View}
 use Rattle.rio_chain.specs.{Chains.{HasChain}, Segments.{Link}, Stops.{KeepsFront}, declared.segment.Segment.{Segment}}
@@ -8,10 +8,9 @@ use Rattle.rio_machine.specs.State.{State}
 use Rattle.rio_machine.specs.declared.command.Command.{Command, TheVariants.{Bad}}
 use Rattle.rio_machine.specs.{declared.command.Outcome.{Outcome, TheVariants.{Accepted, Refused}}, declared.refusal.Refusal.{Refusal}}
 use Rattle.rio_step.specs.{Costs.{cost_of}, Refusing.{refusal_of}, Statable.{IsStatable}, Step.{Stepped, outcome_of, reply_to}}
-use Rattle.rio_effect.specs.FileRuns.{FileRecords, FileStep, file_step}
-use Rattle.rio_judge.specs.Judging.{is_judged}
-use Rattle.rio_session.specs.{Behind.{HasChanged}, Causes.{StaysIfRefused}, Does.{Does}, FileSteps.{FollowsFile, HasRecords, IsStepTold, RecordsBecome, file_records}, Sound.{IsSoundState}}
-use Rattle.rio_session.specs.{Kept.{LinksChange, all_done, changes_after, changes_by, kept_after, kept_by}, Marks.{mark_of_command}, Session.{SessionState, StandsFor, Went, next_of, with_cost}}
+use Rattle.rio_effect.specs.{FileRuns.{FileStep, file_step}, HeaderRecords.{HeadersHaveRecords}}
+use Rattle.rio_session.specs.{Behind.{HasChanged}, Causes.{StaysIfRefused}, Does.{Does}, FileSteps.{FollowsFile, HasRecords, IsStepTold, RecordsBecome}, Fills.{put_in}, Sound.{IsSoundState}}
+use Rattle.rio_session.specs.{Kept.{LinksChange, all_done, changes_after, changes_by, kept_after, kept_by}, Marks.{mark_of_command}, Session.{SessionState, StandsFor, Went, file_records, next_of, with_cost}}
 use Rattle.rio_session.specs.declared.fault.SessionFault.{SessionFault}
 use Rattle.rio_session.proofs.{FileSteps.{steps_follow_files}, Opened.{keeps_own}, States.{of_keys}}
 use Rattle.rio_session.proofs.Refused.{changes_done, changes_refused, kept_done, kept_refused, step_accepted, unrefused}
@@ -31,13 +30,13 @@ changes_nothing s m c refusal told = by (refusal_of m c (mark_of_command s m c))
         let own = told_refused s m c refusal (ap (λ (t : Stepped). outcome_of t.reply) (sym (step_accepted m c (mark_of_command s m c) is)) ∙ told) in
         (changes_done s m c is ∙ own.0, kept_done s m c is ∙ own.1)
 
-module _ (old new : View) (before after : SessionState) (m : State) (c : Command) (text : List ℕ) (outcome : Outcome) (d : Does old new before after c (Ok outcome)) (stands : StandsFor old before m text)
-    (sound : IsSoundState before) (fresh : before.failed ≡ false) (soon : before.datime < 2 ^ 32) (statable : IsStatable c) (judged : is_judged c ≡ true) where
+module _ (headers : HeadersHaveRecords) (old new : View) (before after : SessionState) (m : State) (c : Command) (text : List ℕ) (outcome : Outcome) (d : Does old new before after c (Ok outcome)) (stands : StandsFor old before m text)
+    (sound : IsSoundState before) (fresh : before.failed ≡ false) (soon : before.datime < 2 ^ 32) (statable : IsStatable c) where
   abbrev behind : FileStep
-  behind = file_step before.datime (file_records stands.state.links) m c
+  behind = file_step before.datime (file_records before stands.state.links) m c
 
-  follows : FollowsFile before m c stands.state.links (file_step before.datime (file_records stands.state.links) m c)
-  follows = steps_follow_files before m stands.file c stands.state sound fresh soon statable judged
+  follows : FollowsFile before m c stands.state.links (file_step before.datime (file_records before stands.state.links) m c)
+  follows = steps_follow_files headers before m stands.file c stands.state sound fresh soon statable
 
   went : Went old new before after m c text outcome
   went = d.kept.done m text stands
@@ -52,7 +51,7 @@ module _ (old new : View) (before after : SessionState) (m : State) (c : Command
       let changed : HasChanged old new before after m c = d.file.changed m (of_keys before m stands.file stands.state) accepted in
       let same = changes_done before m c (unrefused before m c (sym went.outcome_is ∙ accepted)) in
       let f = changed.file stands.file stands.state.links stands.holds stands.state.chain in
-      let links : behind.records.links ≡ all_done (changes_by before m c) stands.state.links = ap (λ (r : FileRecords). r.links) follows.records_are ∙ ap (λ (l : List LinksChange). all_done l stands.state.links) same in
+      let links : behind.records.links ≡ all_done (changes_by before m c) stands.state.links = follows.links_are ∙ ap (λ (l : List LinksChange). all_done l stands.state.links) same in
       (f.0, f.1, subst (λ (l : List Link). HasChain l after.segments f.0) (sym links) f.2, f.3)
 
   -- a refused one none
@@ -60,7 +59,7 @@ module _ (old new : View) (before after : SessionState) (m : State) (c : Command
   held_still refusal refused =
       let same : new.holds ≡ old.holds = (subst (StaysIfRefused old new) refused d.file.refused).0 in
       let nothing = changes_nothing before m c refusal (sym went.outcome_is ∙ refused) in
-      let links : behind.records.links ≡ stands.state.links = ap (λ (r : FileRecords). r.links) follows.records_are ∙ ap (λ (l : List LinksChange). all_done l stands.state.links) nothing.0 in
+      let links : behind.records.links ≡ stands.state.links = follows.links_are ∙ ap (λ (l : List LinksChange). all_done l stands.state.links) nothing.0 in
       let segments : after.segments ≡ before.segments = ap (λ (s : SessionState). s.segments) (went.follows ∙ ap (with_cost (cost_of m c)) nothing.1) in
       (stands.file, same ∙ stands.holds, subst (λ (x : List Link × List Segment). HasChain x.0 x.1 stands.file) (λ i. (sym links i, sym segments i)) stands.state.chain, keeps_own stands.file)
 
@@ -75,23 +74,23 @@ module _ (old new : View) (before after : SessionState) (m : State) (c : Command
   records_become file others holds chain =
       let same_file : stands.file ≡ file = same_Some stands.file file (sym stands.holds ∙ holds) in
       let same_links : stands.state.links ≡ others = chain_one file stands.state.links others (subst (λ (f : List ℕ). HasChain stands.state.links before.segments f) same_file stands.state.chain).chain chain.chain in
-      subst (λ (x : List ℕ × List Link). HasRecords old new after x.0 (file_step before.datime (file_records x.1) m c)) (λ i. (same_file i, same_links i))
+      subst (λ (x : List ℕ × List Link). HasRecords old new after x.0 (file_step before.datime (file_records before x.1) m c)) (λ i. (same_file i, same_links i))
       (record {
         now = held.0;
         holds = held.1;
         chain = held.2;
         front = held.3;
-        records_are = follows.records_are ∙ ap file_records (sym (ap (λ (r : FileRecords). r.links) follows.records_are));
+        puts_are = λ name. follows.puts_are name ∙ ap (λ (x : SessionState). put_in x.trees name) (sym went.follows);
       })
 
 -- where the command is done
-pub records_follow : (old new : View) (before after : SessionState) (c : Command) (answer : Result Outcome SessionFault) → Does old new before after c answer
-    → IsSoundState before → before.failed ≡ false → before.datime < 2 ^ 32 → IsStatable c → is_judged c ≡ true
+pub records_follow : HeadersHaveRecords → (old new : View) (before after : SessionState) (c : Command) (answer : Result Outcome SessionFault) → Does old new before after c answer
+    → IsSoundState before → before.failed ≡ false → before.datime < 2 ^ 32 → IsStatable c
     → OnOk answer ((m : State) (text : List ℕ) → StandsFor old before m text → RecordsBecome old new before after m c)
-records_follow old new before after c (Ok outcome) d sound fresh soon statable judged = λ m text stands. records_become old new before after m c text outcome d stands sound fresh soon statable judged
-records_follow old new before after c (Err e) d sound fresh soon statable judged = tt
+records_follow headers old new before after c (Ok outcome) d sound fresh soon statable = λ m text stands. records_become headers old new before after m c text outcome d stands sound fresh soon statable
+records_follow headers old new before after c (Err e) d sound fresh soon statable = tt
 
 -- the records tell the step, whatever is answered
-pub step_is_told : (v : View) (s : SessionState) (c : Command) → IsSoundState s → s.failed ≡ false → s.datime < 2 ^ 32 → IsStatable c → is_judged c ≡ true
+pub step_is_told : HeadersHaveRecords → (v : View) (s : SessionState) (c : Command) → IsSoundState s → s.failed ≡ false → s.datime < 2 ^ 32 → IsStatable c
     → (m : State) (text : List ℕ) (stands : StandsFor v s m text) → IsStepTold s m c stands.state.links
-step_is_told v s c sound fresh soon statable judged m text stands = (steps_follow_files s m stands.file c stands.state sound fresh soon statable judged).next
+step_is_told headers v s c sound fresh soon statable m text stands = (steps_follow_files headers s m stands.file c stands.state sound fresh soon statable).next

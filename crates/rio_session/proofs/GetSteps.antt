@@ -15,15 +15,13 @@ use Rattle.rio_model.specs.{Mapping.{Mapped, as_version}, Resolving.{is_known_ve
 use Rattle.rio_reply.specs.Told.{record_told_as, told_as}
 use Rattle.rio_reply.proofs.{Listings.{told_is}, Versions.{IsHadByVersion, had_by_version}}
 use Rattle.rio_step.specs.Refusing.{change_in, first_of, is_version_missing, kind_change, lacks_version, meant_cycle, meant_object, object_class, refusal_of, refused_if, seen_in}
-use Rattle.rio_step.specs.{ReplyText.{text_of}, Step.{object_told, or_unmapped, outcome_of, refused, told_value}}
+use Rattle.rio_step.specs.{ReplyText.{text_of}, Runs.{saved_of}, Step.{object_told, or_unmapped, outcome_of, refused, told_value}}
 use Rattle.rio_effect.proofs.KeyReads.{keys_have_records}
 use Rattle.rio_state.proofs.Members.{Found, contains_in, found}
 use Rattle.rio_judge.specs.Judging.{refused_by_object}
-use Rattle.rio_recover.specs.Closable.{IsClosable}
-use Rattle.rio_session.specs.{Behind.{IsOfKeys, IsToldByKeys}, Gets.{IsReplyTo, record_told}, Marks.{command_lengths}, Session.{HoldsState, LacksRoomIfFull, SessionState, next_of}}
+use Rattle.rio_session.specs.{Behind.{IsOfKeys, IsToldByKeys}, Due.{IsClosableWith}, Gets.{IsReplyTo, record_told}, Marks.{command_lengths}, Session.{HoldsState, LacksRoomIfFull, SessionState, next_of}}
 use Rattle.rio_session.proofs.OtherSteps.{accepted_outcome, accepted_still, accepted_told, one_record, refused_lacks, refused_outcome, refused_still, refused_told}
-use Rattle.rio_session.proofs.{KeyClasses.{key_class}, Refused.{cost_accepted}, Replies.{IsStill}, States.{Known, known, of_keys}}
-use Rattle.rio_session.specs.SessionState.{baskets_of}
+use Rattle.rio_session.proofs.{KeyClasses.{key_class}, Refused.{cost_accepted}, Replies.{IsStill}, States.{of_keys, saved_objects}}
 
 -- this is said of it, and that becomes of it
 abbrev pub IsSaidOf : SessionState → State → List ℕ → Option ℕ → Option ℤ → List ℕ → Outcome → Type 0
@@ -32,7 +30,7 @@ IsSaidOf s m name asked version text outcome =
 
 -- ---- whether it is refused or not, it changes nothing and costs nothing
 
-module _ (s : SessionState) (m : State) (keys : IsOfKeys s m) (kept : IsClosable s.segments s.heads s.info (baskets_of s) s.name) (name : List ℕ) (asked : Option ℕ) (version : Option ℤ) where
+module _ (s : SessionState) (m : State) (keys : IsOfKeys s m) (kept : IsClosableWith s.segments s.heads s.trees s.info s.name) (name : List ℕ) (asked : Option ℕ) (version : Option ℤ) where
   pub get_still : IsStill s m (Get name asked version) 0
   unfolding command_lengths
   get_still = by (refusal_of m (Get name asked version) None) refl
@@ -87,7 +85,7 @@ some_of (Some x) i = (x, refl)
 abbrev refusal_by : Mapped Value → Bool → Option Refusal
 refusal_by mapped known = first_of (change_in mapped ∷ refused_if (not known) NoVersion ∷ [])
 
-module _ (s : SessionState) (m : State) (file : List ℕ) (h : HoldsState s m file) (kept : IsClosable s.segments s.heads s.info (baskets_of s) s.name) (name : List ℕ) (asked : Option ℕ) (number : ℕ) (head : KeyHead) (bytes : List ℕ)
+module _ (s : SessionState) (m : State) (file : List ℕ) (h : HoldsState s m file) (kept : IsClosableWith s.segments s.heads s.trees s.info s.name) (name : List ℕ) (asked : Option ℕ) (number : ℕ) (head : KeyHead) (bytes : List ℕ)
     (number_is : number ≡ meant_cycle m name asked) (key : head_of name (Some number) s.heads ≡ Some head) (among : Contains h.links (RecordAt head.seek bytes)) (v : Value) (object : meant_object m name asked ≡ Some v) where
   its : Found (is_at_cycle name number) head s.heads
   its = found (is_at_cycle name number) head s.heads key
@@ -104,17 +102,18 @@ module _ (s : SessionState) (m : State) (file : List ℕ) (h : HoldsState s m fi
   held : get m.objects (head.name, head.cycle) ≡ Some v
   held = ap (λ (x : List ℕ × ℕ). get m.objects x) (λ i. (name_is i, cycle_is i)) ∙ object
 
-  kn : Known h.links m
-  kn = known s m file h
+  held_saved : get (saved_of m).objects (head.name, head.cycle) ≡ Some v
+  held_saved = (λ i. get (saved_objects m i) (head.name, head.cycle)) ∙ held
 
   read : value_at s.classes head.class head.keylen (drop head.keylen bytes) ≡ Ok v
+  unfolding saved_of
   read =
-      let r = keys_have_records file h.links s.heads m head v h.chain.chain h.keys kn.records (contains_in head s.heads its.among) held in
+      let r = keys_have_records file h.links s.heads (saved_of m) head v h.chain.chain h.keys h.records (contains_in head s.heads its.among) held_saved in
       let same : bytes ≡ r.bytes = one_record file head.seek bytes r.bytes h.links h.chain.chain.links_are among r.there in
       ap (λ (x : List ClassDef × List ℕ). value_at x.0 head.class head.keylen (drop head.keylen x.1)) (λ i. (sym h.stands.classes i, same i)) ∙ r.read
 
   class_is : object_class v ≡ Some head.class
-  class_is = key_class h.links s.heads m head v h.keys kn.records held (contains_in head s.heads its.among)
+  class_is = key_class h.links s.heads (saved_of m) head v h.keys h.records held_saved (contains_in head s.heads its.among)
 
   text_is : (version : Option ℤ) (w : Value) → told_value m name asked version ≡ w → text_of (object_told head.name head.cycle w) ≡ text_of (object_told name (meant_cycle m name asked) (told_value m name asked version))
   text_is version w is = ap (λ (x : List ℕ × (ℕ × Value)). text_of (object_told x.0 x.1.0 x.1.1)) (λ i. (name_is i, (cycle_is i, sym is i)))

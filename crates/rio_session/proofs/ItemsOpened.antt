@@ -13,16 +13,17 @@ use Rattle.rio_state.proofs.Members.{In, any_from, contains_in, filter_in, in_co
 use Rattle.rio_step.specs.KeptItems.{AreItemsOfState, item_of_key, item_of_tree, kept_tree}
 use Rattle.rio_step.specs.KeptItems as items
 use Rattle.rio_step.specs.{ItemKeys.{told_by_key}}
-use Rattle.rio_tree.specs.{WrittenLaws.{stated_defs}, declared.head.TreeHead.{TreeHead}}
+use Rattle.rio_tree.specs.{declared.head.TreeHead.{TreeHead}}
 use Rattle.rio_tree_table.specs.{Table.{is_of_name}, declared.table.KeptTree.{KeptTree}}
 use Rattle.rio_effect.proofs.KeysOfState.{object_keys_stand}
-use Rattle.rio_session.specs.{Items.{AreTreeKeys}, SessionState.{kept_tree_of}}
+use Rattle.rio_session.specs.Items.{AreTreeKeys}
+use Rattle.rio_session.proofs.{FillLists.{opened_tree}, HeaderOfFill.{defs_begun}}
 use Rattle.rio_session.proofs.ItemsOrder.{ItemBefore, TreeBefore, entry_of_tree, items_one_way, items_rise, kept_trees_rise, tree_items_rise, tree_of_entry, trees_one_way, trees_rise}
 use Rattle.rio_session.proofs.{Rising.{same_rising}, TreesRead.{IsTreeOf, header_of_tree, tree_of_header}}
 
 -- ---- lists
 
-moved_in : {A : Type 0} (x : A) (xs ys : List A) → IsPermutation xs ys → In x xs → In x ys
+pub moved_in : {A : Type 0} (x : A) (xs ys : List A) → IsPermutation xs ys → In x xs → In x ys
 moved_in x xs ys moved i = in_contained x ys (Contains-permutation xs ys x moved (contains_in x xs i))
 
 module _ {A B : Type 0} (f : A → Option B) where
@@ -37,7 +38,7 @@ module _ {A B : Type 0} (f : A → Option B) where
       by None j = j
       by (Some w) j = inr j
 
-  given_in : (y : B) (xs : List A) → In y (filter_map f xs) → (x : A) × In x xs × (f x ≡ Some y)
+  pub given_in : (y : B) (xs : List A) → In y (filter_map f xs) → (x : A) × In x xs × (f x ≡ Some y)
   given_in y [] i = absurd i
   given_in y (z ∷ zs) i = by (f z) refl i (given_in y zs)
     where
@@ -56,7 +57,7 @@ module _ (records : List KeyedRecord) (heads : List KeyHead) (trees : List TreeA
   classes = file_classes (info_key records)
 
   abbrev kept : List KeptTree
-  kept = map kept_tree_of trees
+  kept = map opened_tree trees
 
   abbrev headers : List KeyedRecord
   headers = tree_records tops
@@ -105,32 +106,32 @@ module _ (records : List KeyedRecord) (heads : List KeyHead) (trees : List TreeA
   at_header : (r : KeyedRecord) (head : TreeHead) → header_in classes r ≡ Some head → tree_at classes r ≡ Some (record { name = r.head.name; head = head })
   at_header r head e = ap (option_map (λ (h : TreeHead). let t : TreeAt = record { name = r.head.name; head = h } in t)) e
 
-  kept_same : (r : KeyedRecord) (t : Tree) (told : IsTreeOf records r t) → kept_tree_of (record { name = r.head.name; head = told.head }) ≡ kept_tree (r.head.name, t)
+  kept_same : (r : KeyedRecord) (t : Tree) (told : IsTreeOf records r t) → opened_tree (record { name = r.head.name; head = told.head }) ≡ kept_tree (r.head.name, t)
   kept_same r t told =
-      (λ i. record { name = r.head.name; branches = stated_defs told.head.branches; saved = sym told.long i; pending = 0 }) ∙ ap (λ (u : Tree). kept_tree (r.head.name, u)) told.tree
+      (λ i. record { name = r.head.name; branches = defs_begun told.head.branches i; saved = sym told.long i; pending = 0 }) ∙ ap (λ (u : Tree). kept_tree (r.head.name, u)) told.tree
 
   -- a kept tree is that of a header
   header_of_kept : (t : TreeAt) → In t trees → (r : KeyedRecord) × In r headers × (tree_at classes r ≡ Some t)
   header_of_kept t i = given_in (tree_at classes) t headers (moved_in t trees (trees_at classes headers) (IsPermutation-sym (trees_at classes headers) trees are.each) i)
 
-  kept_of_header : (r : KeyedRecord) (head : TreeHead) → In r headers → header_in classes r ≡ Some head → In (record { name = r.head.name; head = head }) trees
+  pub kept_of_header : (r : KeyedRecord) (head : TreeHead) → In r headers → header_in classes r ≡ Some head → In (record { name = r.head.name; head = head }) trees
   kept_of_header r head i e = moved_in _ (trees_at classes headers) trees are.each (in_given (tree_at classes) r (record { name = r.head.name; head = head }) headers i (at_header r head e))
 
   kept_into : (z : KeptTree) → In z kept → In z (map kept_tree (entries m.trees))
   kept_into z i =
-      let (t, among, same) = map_in kept_tree_of z trees i in
+      let (t, among, same) = map_in opened_tree z trees i in
       let (r, counts, at) = header_of_kept t among in
       let (tree, there, told) = tree_of_header records m is r counts in
       let header : record { name = r.head.name; head = told.head } ≡ t = same_Some _ t (sym (at_header r told.head told.header) ∙ at) in
-      let whole : kept_tree (r.head.name, tree) ≡ z = sym (kept_same r tree told) ∙ ap kept_tree_of header ∙ same in
+      let whole : kept_tree (r.head.name, tree) ≡ z = sym (kept_same r tree told) ∙ ap opened_tree header ∙ same in
       subst (λ (x : KeptTree). In x (map kept_tree (entries m.trees))) whole (in_map kept_tree (r.head.name, tree) (entries m.trees) (entry_of_tree m r.head.name tree there))
 
   kept_back : (z : KeptTree) → In z (map kept_tree (entries m.trees)) → In z kept
   kept_back z i =
       let (e, among, same) = map_in kept_tree z (entries m.trees) i in
       let h = header_of_tree records m is e.0 e.1 (tree_of_entry m e among) in
-      let whole : kept_tree_of (record { name = h.r.head.name; head = h.tree.head }) ≡ z = kept_same h.r e.1 h.tree ∙ ap (λ (n : List ℕ). kept_tree (n, e.1)) h.named ∙ same in
-      subst (λ (x : KeptTree). In x kept) whole (in_map kept_tree_of _ trees (kept_of_header h.r h.tree.head h.among h.tree.header))
+      let whole : opened_tree (record { name = h.r.head.name; head = h.tree.head }) ≡ z = kept_same h.r e.1 h.tree ∙ ap (λ (n : List ℕ). kept_tree (n, e.1)) h.named ∙ same in
+      subst (λ (x : KeptTree). In x kept) whole (in_map opened_tree _ trees (kept_of_header h.r h.tree.head h.among h.tree.header))
 
   kept_are : kept ≡ map kept_tree (entries m.trees)
   kept_are = same_rising TreeBefore trees_one_way kept (map kept_tree (entries m.trees)) (trees_rise trees are.ordered) (kept_trees_rise m) kept_into kept_back
@@ -142,7 +143,7 @@ module _ (records : List KeyedRecord) (heads : List KeyHead) (trees : List TreeA
   no_object h o false e = refl
   no_object h o true e =
       let p = passing (is_of_name h.name) kept e in
-      let (t, among, same) = map_in kept_tree_of p.x trees p.among in
+      let (t, among, same) = map_in opened_tree p.x trees p.among in
       let (r, counts, at) = header_of_kept t among in
       let (tree, there, told) = tree_of_header records m is r counts in
       let header : record { name = r.head.name; head = told.head } ≡ t = same_Some _ t (sym (at_header r told.head told.header) ∙ at) in
@@ -152,7 +153,7 @@ module _ (records : List KeyedRecord) (heads : List KeyHead) (trees : List TreeA
   tree_there : (h : KeyHead) (t : TreeOf records m is h) → list_any (is_of_name h.name) kept ≡ true
   tree_there h t =
       let (tree, there, told) = tree_of_header records m is t.r t.among in
-      any_from (is_of_name h.name) _ kept (in_map kept_tree_of _ trees (kept_of_header t.r told.head t.among told.header)) ((bytes_eq-Decides t.r.head.name h.name).1 (ap (λ (k : KeyHead). k.name) t.head_is))
+      any_from (is_of_name h.name) _ kept (in_map opened_tree _ trees (kept_of_header t.r told.head t.among told.header)) ((bytes_eq-Decides t.r.head.name h.name).1 (ap (λ (k : KeyHead). k.name) t.head_is))
 
   one_key : (h : KeyHead) → In h heads → items.is_tree_key kept h ≡ is_tree_key h
   one_key h i = some_found (is_of_name h.name) kept ∙ by (key_record records m is heads keys h i)

@@ -16,7 +16,7 @@ use Rattle.rio_recover.specs.{TreeTable.{AreAfter, AreInOrder}, declared.trees.T
 use Rattle.rio_state.proofs.Members.{In}
 use Rattle.rio_step.specs.KeptItems.{item_of_key, item_of_tree, kept_tree}
 use Rattle.rio_tree_table.specs.declared.table.KeptTree.{KeptTree}
-use Rattle.rio_session.specs.SessionState.{kept_tree_of}
+use Rattle.rio_session.proofs.FillLists.{opened_tree}
 use Rattle.rio_session.proofs.Rising.{AllBehind, AreRising}
 
 abbrev pub Named : Type 0
@@ -61,11 +61,11 @@ module _ (keep : KeyHead → Bool) where
 
 -- ---- kept trees
 
-trees_behind : (t : TreeAt) (us : List TreeAt) → AreAfter t.name us → AllBehind TreeBefore (kept_tree_of t) (map kept_tree_of us)
+trees_behind : (t : TreeAt) (us : List TreeAt) → AreAfter t.name us → AllBehind TreeBefore (opened_tree t) (map opened_tree us)
 trees_behind t [] are = tt
 trees_behind t (u ∷ us) are = (are.0, trees_behind t us are.1)
 
-pub trees_rise : (trees : List TreeAt) → AreInOrder trees → AreRising TreeBefore (map kept_tree_of trees)
+pub trees_rise : (trees : List TreeAt) → AreInOrder trees → AreRising TreeBefore (map opened_tree trees)
 trees_rise [] are = tt
 trees_rise (t ∷ ts) are = (trees_behind t ts are.0, trees_rise ts are.1)
 

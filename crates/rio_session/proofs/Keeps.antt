@@ -6,10 +6,8 @@ use Rattle.rio_key.specs.{declared.head.KeyHead.{KeyHead}, Written.{written_key}
 use Rattle.rio_dir.specs.Table.{heads_size, is_before, with_head}
 use Rattle.rio_chain.specs.{Placing.{file_end, record_count, rest_of_gap, with_segment}, declared.segment.Segment.{Segment, TheVariants.{Record, Gap}}}
 use Rattle.rio_state.specs.Closing.{close_need, end_limit}
-use Rattle.rio_chain.specs.declared.record.NewRecord.{NewRecord}
 use Rattle.rio_close.proofs.Fitting.{count_with}
 use Rattle.rio_recover.specs.Closable.{IsClosable, begins_at, is_fit_key, is_list_at, is_owned, is_placed, is_sized, kept_with}
-use Rattle.rio_session.specs.{Puts.{CanBePut}, Session.{SessionState}}
 
 -- ---- segments
 
@@ -19,7 +17,7 @@ rest_count place n segments = elim (n == 0) as (λ b. record_count (if b then se
 same_place : (place : ℕ) → (place == place) ≡ true
 same_place place = eq-eqb place place refl
 
-rest_any : (q place n : ℕ) (segments : List Segment) → list_any (begins_at q) (rest_of_gap place n segments) ≡ list_any (begins_at q) segments
+pub rest_any : (q place n : ℕ) (segments : List Segment) → list_any (begins_at q) (rest_of_gap place n segments) ≡ list_any (begins_at q) segments
 rest_any q place n segments = elim (n == 0) as (λ b. list_any (begins_at q) (if b then segments else Gap place n ∷ segments) ≡ list_any (begins_at q) segments) [ true ↦ refl | false ↦ refl ]
 
 or_both : (a b c : Bool) → (a || b) ≡ true → (b ≡ true → c ≡ true) → (a || c) ≡ true
@@ -82,7 +80,7 @@ size_with h (k ∷ ks) =
 
 -- ---- records have keys
 
-any_new : (test : KeyHead → Bool) (h : KeyHead) (heads : List KeyHead) → test h ≡ true → list_any test (with_head h heads) ≡ true
+pub any_new : (test : KeyHead → Bool) (h : KeyHead) (heads : List KeyHead) → test h ≡ true → list_any test (with_head h heads) ≡ true
 any_new test h [] one = or_left (test h) false one
 any_new test h (k ∷ ks) one =
     elim (is_before h.name h.cycle k) as (λ b. list_any test (if b then k ∷ with_head h ks else h ∷ k ∷ ks) ≡ true) [
@@ -90,7 +88,7 @@ any_new test h (k ∷ ks) one =
       | false ↦ or_left (test h) (list_any test (k ∷ ks)) one
     ]
 
-any_still : (test : KeyHead → Bool) (h : KeyHead) (heads : List KeyHead) → list_any test heads ≡ true → list_any test (with_head h heads) ≡ true
+pub any_still : (test : KeyHead → Bool) (h : KeyHead) (heads : List KeyHead) → list_any test heads ≡ true → list_any test (with_head h heads) ≡ true
 any_still test h [] e = absurd cc
 any_still test h (k ∷ ks) e =
     elim (is_before h.name h.cycle k) as (λ b. list_any test (if b then k ∷ with_head h ks else h ∷ k ∷ ks) ≡ true) [
@@ -126,7 +124,7 @@ module _ (info : Option KeyHead) (h : KeyHead) (baskets : List ℕ) where
       or_left (((h.seek == 100) || is_list_at h.seek info) || list_any (λ k. k.seek == h.seek) (with_head h heads)) (list_any (λ q. q == h.seek) baskets)
       (or_right ((h.seek == 100) || is_list_at h.seek info) (list_any (λ k. k.seek == h.seek) (with_head h heads)) (any_new (λ k. k.seek == h.seek) h heads (same_place h.seek)))
 
-  all_owned : (n : ℕ) (segments : List Segment) (heads : List KeyHead) → list_all (is_owned info heads baskets) segments ≡ true → list_all (is_owned info (with_head h heads) baskets) (with_segment h.seek n segments) ≡ true
+  pub all_owned : (n : ℕ) (segments : List Segment) (heads : List KeyHead) → list_all (is_owned info heads baskets) segments ≡ true → list_all (is_owned info (with_head h heads) baskets) (with_segment h.seek n segments) ≡ true
   all_owned n [] heads all = and_from (is_owned info (with_head h heads) baskets (Record h.seek n)) true (owned_new heads n) refl
   all_owned n (Record p m ∷ segments) heads all =
       let parts = and_parts (is_owned info heads baskets (Record p m)) (list_all (is_owned info heads baskets) segments) all in
@@ -146,7 +144,7 @@ stored_still place n segments (q ∷ baskets) all =
     and_from (list_any (begins_at q) (with_segment place n segments)) (list_all (λ p. list_any (begins_at p) (with_segment place n segments)) baskets) (begins_still q place n segments parts.0) (stored_still place n segments baskets parts.1)
 
 -- the class list stays where it is
-listed_still : (info : Option KeyHead) (place n : ℕ) (segments : List Segment) → IfSome info (λ h. is_placed segments h ≡ true) → IfSome info (λ h. is_placed (with_segment place n segments) h ≡ true)
+pub listed_still : (info : Option KeyHead) (place n : ℕ) (segments : List Segment) → IfSome info (λ h. is_placed segments h ≡ true) → IfSome info (λ h. is_placed (with_segment place n segments) h ≡ true)
 listed_still None place n segments there = tt
 listed_still (Some h) place n segments there = begins_still h.seek place n segments there
 
@@ -166,11 +164,3 @@ kept_more segments heads info baskets name n h kept sized fit room = record {
   count = omega (arith, count_with h.seek n segments, length_with h heads, kept.count);
   room = subst (λ (k : ℕ). file_end (with_segment h.seek n segments) + close_need (kept_with name (with_head h heads) k) ≤ end_limit) (sym (count_with h.seek n segments)) room;
 }
-
--- the same with the record that was made
-pub kept_put : (s : SessionState) (made : NewRecord) (segments segments' : List Segment) (heads heads' : List KeyHead) (info : Option KeyHead) (baskets name : List ℕ) → CanBePut s made → IsClosable segments heads info baskets name
-    → s.segments ≡ segments → s.heads ≡ heads → s.name ≡ name → segments' ≡ with_segment made.head.seek (length made.bytes.bytes) segments → heads' ≡ with_head made.head heads → IsClosable segments' heads' info baskets name
-kept_put s made segments segments' heads heads' info baskets name can kept a b c put more =
-    let room = subst (λ (x : List Segment × (List KeyHead × List ℕ)). file_end (with_segment made.head.seek (length made.bytes.bytes) x.0) + close_need (kept_with x.1.1 (with_head made.head x.1.0) (record_count x.0 + 1)) ≤ end_limit) (λ i. (a i, (b i, c i))) can.room in
-    let all = kept_more segments heads info baskets name (length made.bytes.bytes) made.head kept can.sized can.fit room in
-    subst (λ (x : List Segment × List KeyHead). IsClosable x.0 x.1 info baskets name) (λ i. (sym put i, sym more i)) all

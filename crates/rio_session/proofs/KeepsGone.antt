@@ -1,17 +1,17 @@
 -- What a session keeps is sound without the records that a delete releases.
-use Rattle.std.proofs.Common.{◌≡◌, ◌==◌, ◌||◌, ℕ, ◌+◌, ◌<◌, ◌≤◌, Bool, true, false, cond, List, [], ◌∷◌, ◌++◌, length, map, Option, Some, None, nat_lt, refl, sym, ap, subst, ◌∙◌, arith}
+use Rattle.std.proofs.Common.{◌≡◌, ◌==◌, ◌||◌, ℕ, ◌+◌, ◌<◌, ◌≤◌, Bool, true, false, List, [], ◌∷◌, ◌++◌, length, Option, Some, nat_lt, refl, sym, ap, subst, ◌∙◌, arith}
 use Rattle.std.proofs.{lemmas.Bool.{and_from, and_parts, lt-ltb, ne_eqb, or_parts}}
 use Rattle.std.proofs.lemmas.List.{Sums.{AllPass-from_list_all, list_all-from_AllPass}, Sorted.{All-permutation, length_permutation, list_any-IsPermutation}}
-use Rattle.std.specs.List.{find, list_all, list_any, Sorted.{IsPermutation}}
+use Rattle.std.specs.List.{list_all, list_any, Sorted.{IsPermutation}}
 use Rattle.rio_key.specs.{declared.head.KeyHead.{KeyHead}, Written.{written_key}}
 use Rattle.rio_dir.specs.Table.{head_of, heads_size, is_at_cycle, without_head}
 use Rattle.rio_chain.specs.{Adjoining.{AreSegments}, FewerRecords.{IsLeftWithout}, Placing.{file_end, record_count}, Releasing.{without_segment}}
 use Rattle.rio_chain.specs.declared.segment.Segment.{Segment, TheVariants.{Record, Gap}}
 use Rattle.rio_state.specs.{Closing.{close_need, end_limit}, Sizes.{close_size}}
-use Rattle.rio_recover.specs.{Cleaning.{without_segments}, Closable.{IsClosable, begins_at, is_fit_key, is_list_at, is_owned, is_placed, is_sized, kept_with, list_count}, Whole.{HoldsDirectory}}
-use Rattle.rio_session.specs.Releases.{AreApart, AreReleasable}
-use Rattle.rio_session.proofs.{Apart.{IsWithin, is_among}, CloseRoom.{directory_left}, Needs.{need_is_size}}
-use Rattle.rio_session.proofs.KeepsLess.{IsOneLess, IsTakenOut, all_owned, alone, any_append, baskets_in, first_in, heads_in, is_later, left_without, list_in, list_place, listed_less, own_places, owned_by, owned_less, owns_counted, placed_less, seeks, seeks_any, stored_less, taken_out, turned}
+use Rattle.rio_recover.specs.{Cleaning.{without_segments}, Closable.{IsClosable, begins_at, is_fit_key, is_list_at, is_owned, is_placed, is_sized, kept_with}, Whole.{HoldsDirectory}}
+use Rattle.rio_session.specs.{Due.{due_of, need_with}, Fills.{FilledTree}, Releases.{AreApart, AreReleasable}}
+use Rattle.rio_session.proofs.{Apart.{is_among}, CloseRoom.{directory_left}, FillSums.{need_by_due}, Needs.{need_is_size}}
+use Rattle.rio_session.proofs.KeepsLess.{IsOneLess, IsTakenOut, all_owned, alone, any_append, baskets_in, first_in, heads_in, is_later, left_without, list_in, list_place, listed_less, own_places, owned_by, owned_less, owns_counted, placed_less, seeks, seeks_any, stored_less, taken_out}
 
 -- ---- what a close needs
 
@@ -34,6 +34,18 @@ heads_low segments heads info baskets name kept =
     let is = need_is_size name heads (record_count segments) in
     let room : close_need (kept_with name heads (record_count segments)) ≤ end_limit = omega (arith, kept.room) in
     low_size name (heads_size heads) (record_count segments) (subst (λ (n : ℕ). n ≤ end_limit) is room)
+
+-- with fewer saves that are due
+pub need_with_less : (name : List ℕ) (heads left : List KeyHead) (count few : ℕ) (trees fewer : List FilledTree) → heads_size left ≤ heads_size heads → few ≤ count → (due_of fewer).bytes ≤ (due_of trees).bytes → (due_of fewer).baskets ≤ (due_of trees).baskets
+    → need_with name left few fewer ≤ need_with name heads count trees
+need_with_less name heads left count few trees fewer bytes records due baskets =
+    omega (
+      arith,
+      need_by_due name left few fewer,
+      need_by_due name heads count trees,
+      size_less name (heads_size heads) (heads_size left) (count + (due_of trees).baskets) (few + (due_of fewer).baskets) bytes (omega (arith, records, baskets)),
+      due,
+    )
 
 -- ---- the record of a key
 
@@ -218,6 +230,15 @@ module _ (heads : List KeyHead) (info : Option KeyHead) (rest name : List ℕ) w
   baskets_gone [] segments shape kept = kept
   baskets_gone (q ∷ places) segments shape kept =
       baskets_gone places (without_segment q segments) (basket_left segments heads info q (places ++ rest) name shape kept).1.shape (basket_less segments heads info q (places ++ rest) name shape kept)
+
+  -- the segments keep their form, and end no later
+  pub baskets_left : (places : List ℕ) (segments : List Segment) → AreSegments segments → IsClosable segments heads info (places ++ rest) name
+      → AreSegments (without_segments places segments) × (file_end (without_segments places segments) ≤ file_end segments)
+  baskets_left [] segments shape kept = (shape, omega arith)
+  baskets_left (q ∷ places) segments shape kept =
+      let one = (basket_left segments heads info q (places ++ rest) name shape kept).1 in
+      let more = baskets_left places (without_segment q segments) one.shape (basket_less segments heads info q (places ++ rest) name shape kept) in
+      (more.0, omega (arith, more.1, one.end))
 
   front_all : (test : ℕ → Bool) (xs ys : List ℕ) → list_all test (xs ++ ys) ≡ true → list_all test xs ≡ true
   front_all test [] ys each = refl

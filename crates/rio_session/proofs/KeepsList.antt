@@ -3,15 +3,15 @@ use Rattle.std.proofs.Common.{◌≡◌, ◌==◌, ◌||◌, ℕ, ◌+◌, ◌-�
 use Rattle.std.proofs.lemmas.Bool.{and_from, and_parts, eq-eqb, ne_eqb, or_left, or_right}
 use Rattle.std.specs.{Prelude.{IfSome, if◌then◌else◌}, List.{list_all, list_any}}
 use Rattle.rio_key.specs.declared.head.KeyHead.{KeyHead}
-use Rattle.rio_chain.specs.{Adjoining.{AreSegments}, Chains.{HasRecordSegment}, Placing.{file_end, place_of, record_count, rest_of_gap, with_segment}}
+use Rattle.rio_chain.specs.{Adjoining.{AreSegments}, Chains.{HasRecordSegment}, FewerRecords.{IsLeftWithout}, Placing.{file_end, place_of, record_count, rest_of_gap, with_segment}}
 use Rattle.rio_chain.specs.{Releasing.{without_segment}, declared.record.NewRecord.{NewRecord}, declared.segment.Segment.{Segment, TheVariants.{Record, Gap}}}
 use Rattle.rio_chain.proofs.{Laying.{laid_put}, Words.{whole_long}}
 use Rattle.rio_state.specs.Closing.{close_need, end_limit}
 use Rattle.rio_close.proofs.Fitting.{count_with}
 use Rattle.rio_recover.specs.{Closable.{IsClosable, begins_at, is_owned, kept_with}, Whole.{HoldsDirectory}}
 use Rattle.rio_recover.proofs.Released.{record_segment}
-use Rattle.rio_session.specs.{Kept.{released_segment}, Lists.{CanReplace}, SessionState.{SessionState, baskets_of}}
-use Rattle.rio_session.proofs.{Apart.{is_among}, CloseRoom.{directory_left, directory_stays}, Keeps.{all_placed, begins_still, new_begins, stored_still}}
+use Rattle.rio_session.specs.{Due.{IsClosableWith, need_with}, Kept.{released_segment}, Lists.{CanReplace}, SessionState.{SessionState, baskets_of}}
+use Rattle.rio_session.proofs.{Apart.{is_among}, CloseRoom.{directory_left, directory_stays}, Keeps.{all_placed, begins_still, new_begins, stored_still}, KeepsTrees.{with_saves}, Needs.{need_least}}
 use Rattle.rio_session.proofs.KeepsLess.{IsOneLess, all_owned, baskets_in, first_in, heads_in, is_later, left_without, list_in, listed_less, owned_by, owned_less, own_places, owns_counted, placed_less, seeks, stored_less}
 
 -- ---- segments with a record more
@@ -26,7 +26,7 @@ module _ (test test' : Segment → Bool) (weaker : (x : Segment) → test x ≡ 
   rest_all : (p m : ℕ) (segments : List Segment) → list_all test' segments ≡ true → list_all test' (rest_of_gap p m segments) ≡ true
   rest_all p m segments all = elim (m == 0) as (λ b. list_all test' (if b then segments else Gap p m ∷ segments) ≡ true) [ true ↦ all | false ↦ and_from (test' (Gap p m)) (list_all test' segments) (free p m) all ]
 
-  all_with_new : (place n : ℕ) → test' (Record place n) ≡ true → (segments : List Segment) → list_all test segments ≡ true → list_all test' (with_segment place n segments) ≡ true
+  pub all_with_new : (place n : ℕ) → test' (Record place n) ≡ true → (segments : List Segment) → list_all test segments ≡ true → list_all test' (with_segment place n segments) ≡ true
   all_with_new place n new [] all = and_from (test' (Record place n)) true new refl
   all_with_new place n new (Record p m ∷ segments) all =
       let parts = and_parts (test (Record p m)) (list_all test segments) all in
@@ -57,7 +57,7 @@ or_skipped false false true d e none = absurd cc
 or_skipped false false false d e none = e
 
 module _ (heads : List KeyHead) (baskets : List ℕ) (made : KeyHead) where
-  first_owns : (x : Segment) → is_owned None heads baskets x ≡ true → is_owned (Some made) heads baskets x ≡ true
+  pub first_owns : (x : Segment) → is_owned None heads baskets x ≡ true → is_owned (Some made) heads baskets x ≡ true
   first_owns (Record p n) e = or_more (p == 100) (made.seek == p) (list_any (λ k. k.seek == p) heads) (list_any (λ q. q == p) baskets) e
   first_owns (Gap p n) e = refl
 
@@ -66,7 +66,7 @@ module _ (heads : List KeyHead) (baskets : List ℕ) (made : KeyHead) where
   next_owns h (Record p n) e = or_moved (p == 100) (h.seek == p) (list_any (λ k. k.seek == p) heads) (list_any (λ q. q == p) baskets) (made.seek == p) e
   next_owns h (Gap p n) e = refl
 
-  own_list : (n : ℕ) → is_owned (Some made) heads baskets (Record made.seek n) ≡ true
+  pub own_list : (n : ℕ) → is_owned (Some made) heads baskets (Record made.seek n) ≡ true
   own_list n =
       or_left (((made.seek == 100) || (made.seek == made.seek)) || list_any (λ k. k.seek == made.seek) heads) (list_any (λ q. q == made.seek) baskets)
       (or_left ((made.seek == 100) || (made.seek == made.seek)) (list_any (λ k. k.seek == made.seek) heads)
@@ -126,6 +126,9 @@ module _ (segments : List Segment) (heads : List KeyHead) (baskets name : List �
     later : 100 < h.seek
     later = is_later h.seek owners left less more more_shape owned count (first_in (Some made) heads baskets) begins
 
+    gone_list : IsLeftWithout h.seek (left_without h.seek owners left less more more_shape owned count (first_in (Some made) heads baskets) begins).0 more (without_segment h.seek more)
+    gone_list = (left_without h.seek owners left less more more_shape owned count (first_in (Some made) heads baskets) begins).1
+
     next_kept : IsClosable (without_segment h.seek (with_segment made.seek n segments)) heads (Some made) baskets name
     next_kept =
         let gone = (left_without h.seek owners left less more more_shape owned count (first_in (Some made) heads baskets) begins).1 in
@@ -148,6 +151,15 @@ module _ (segments : List Segment) (heads : List KeyHead) (baskets name : List �
   kept_list None kept = first_kept kept
   kept_list (Some h) kept = next_kept h kept
 
+  -- its segments have their form, and end no later
+  pub list_shape : (info : Option KeyHead) → IsClosable segments heads info baskets name → AreSegments (released_segment info (with_segment made.seek n segments))
+  list_shape None kept = more_shape
+  list_shape (Some h) kept = (gone_list h kept).shape
+
+  pub list_end : (info : Option KeyHead) → IsClosable segments heads info baskets name → file_end (released_segment info (with_segment made.seek n segments)) ≤ file_end (with_segment made.seek n segments)
+  list_end None kept = omega arith
+  list_end (Some h) kept = omega (arith, (gone_list h kept).end)
+
   -- the record of the list before can be released
   pub list_there : (info : Option KeyHead) → IsClosable segments heads info baskets name → IfSome info (λ h. HasRecordSegment segments h.seek)
   list_there None kept = tt
@@ -165,28 +177,40 @@ module _ (segments : List Segment) (heads : List KeyHead) (baskets name : List �
 
 -- ---- with the record that was made
 
-module _ (v : SessionState) (made : NewRecord) (can : CanReplace v made) (shape : AreSegments v.segments) (kept : IsClosable v.segments v.heads v.info (baskets_of v) v.name) where
+module _ (v : SessionState) (made : NewRecord) (can : CanReplace v made) (shape : AreSegments v.segments) (kept : IsClosableWith v.segments v.heads v.trees v.info v.name) where
+  abbrev n : ℕ
+  n = length made.bytes.bytes
+
   long : 4 ≤ length made.bytes.bytes
   long = whole_long made.head.seek made.bytes.bytes can.whole
 
-  pub replaced_kept : (segments : List Segment) → segments ≡ released_segment v.info (with_segment made.head.seek (length made.bytes.bytes) v.segments) → IsClosable segments v.heads (Some made.head) (baskets_of v) v.name
+  room : file_end (with_segment made.head.seek (length made.bytes.bytes) v.segments) + close_need (kept_with v.name v.heads (2 + length v.heads + length (baskets_of v))) ≤ end_limit
+  room = omega (arith, can.room, need_least v.name v.heads (2 + length v.heads + length (baskets_of v)) v.trees)
+
+  pub replaced_kept : (segments : List Segment) → segments ≡ released_segment v.info (with_segment made.head.seek (length made.bytes.bytes) v.segments) → IsClosableWith segments v.heads v.trees (Some made.head) v.name
   replaced_kept segments is =
-      subst (λ (ss : List Segment). IsClosable ss v.heads (Some made.head) (baskets_of v) v.name) (sym is)
-      (kept_list v.segments v.heads (baskets_of v) v.name (length made.bytes.bytes) made.head shape long can.whole.aligned can.place can.room v.info kept)
+      let later = released_segment v.info (with_segment made.head.seek n v.segments) in
+      let one = kept_list v.segments v.heads (baskets_of v) v.name n made.head shape long can.whole.aligned can.place room v.info kept.closable in
+      let formed = list_shape v.segments v.heads (baskets_of v) v.name n made.head shape long can.whole.aligned can.place room v.info kept.closable in
+      let end = list_end v.segments v.heads (baskets_of v) v.name n made.head shape long can.whole.aligned can.place room v.info kept.closable in
+      let few : record_count later ≡ 2 + length v.heads + length (baskets_of v) = omega (arith, one.count) in
+      let need : need_with v.name v.heads (record_count later) v.trees ≡ need_with v.name v.heads (2 + length v.heads + length (baskets_of v)) v.trees = ap (λ (k : ℕ). need_with v.name v.heads k v.trees) few in
+      subst (λ (ss : List Segment). IsClosableWith ss v.heads v.trees (Some made.head) v.name) (sym is)
+      (with_saves later v.heads v.trees (Some made.head) v.name formed one (omega (arith, end, need, can.room)) kept.sound)
 
   pub replaced_there : (segments : List Segment) → segments ≡ v.segments → IfSome v.info (λ h. HasRecordSegment segments h.seek)
   replaced_there segments is =
       subst (λ (ss : List Segment). IfSome v.info (λ h. HasRecordSegment ss h.seek)) (sym is)
-      (list_there v.segments v.heads (baskets_of v) v.name (length made.bytes.bytes) made.head shape long can.whole.aligned can.place can.room v.info kept)
+      (list_there v.segments v.heads (baskets_of v) v.name n made.head shape long can.whole.aligned can.place room v.info kept.closable)
 
   pub replaced_later : IfSome v.info (λ h. 100 < h.seek)
-  replaced_later = list_later v.segments v.heads (baskets_of v) v.name (length made.bytes.bytes) made.head shape long can.whole.aligned can.place can.room v.info kept
+  replaced_later = list_later v.segments v.heads (baskets_of v) v.name n made.head shape long can.whole.aligned can.place room v.info kept.closable
 
   pub replaced_directory : (segments : List Segment) → segments ≡ released_segment v.info (with_segment made.head.seek (length made.bytes.bytes) v.segments) → HoldsDirectory v.nbytes_name v.segments
       → HoldsDirectory v.nbytes_name segments
   replaced_directory segments is within =
       subst (HoldsDirectory v.nbytes_name) (sym is)
-      (directory_kept v.segments v.heads (baskets_of v) v.name (length made.bytes.bytes) made.head shape long can.whole.aligned can.place can.room v.nbytes_name v.info kept within)
+      (directory_kept v.segments v.heads (baskets_of v) v.name n made.head shape long can.whole.aligned can.place room v.nbytes_name v.info kept.closable within)
 
 -- ---- what a session keeps then
 

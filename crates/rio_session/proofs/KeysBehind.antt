@@ -97,7 +97,7 @@ first_with h (k ∷ ks) are = by (is_before h.name h.cycle k) refl
 
 module _ (keep : KeyHead → Bool) (h : KeyHead) (kept : keep h ≡ true) where
   -- among the keys that are kept it stands where it stands among all
-  filter_with : (heads : List KeyHead) → AreOrdered heads → find (is_at_cycle h.name h.cycle) heads ≡ None → filter keep (with_head h heads) ≡ with_head h (filter keep heads)
+  pub filter_with : (heads : List KeyHead) → AreOrdered heads → find (is_at_cycle h.name h.cycle) heads ≡ None → filter keep (with_head h heads) ≡ with_head h (filter keep heads)
   filter_with [] are none = ap (λ (b : Bool). cond b (h ∷ []) []) kept
   filter_with (k ∷ ks) are none = by (is_before h.name h.cycle k) refl (filter_with ks are.1 parts.1)
     where

@@ -14,15 +14,14 @@ use Rattle.rio_machine.proofs.OrderLaws.{items_tie, items_total, names_tie, name
 use Rattle.rio_machine.specs.{State.{NameAndCycle, State, Tree, item_order, names_tree}, declared.command.Command.TheVariants.{Delete}}
 use Rattle.rio_state.proofs.Members.{any_from, found, in_filter, in_map}
 use Rattle.rio_judge.proofs.ItemsOfState.{names_objects, tree_is}
-use Rattle.rio_recover.specs.TreeTable.{without_tree as without_header}
 use Rattle.rio_step.specs.KeptItems as items
 use Rattle.rio_step.specs.{ItemKeys.{told_by_key}, KeptItems.{AreItemsOfState, is_object_key, item_of_key, item_of_tree, kept_tree}, Step.{Listed, listed_object, state_behind}}
-use Rattle.rio_session.specs.{Items.{AreTreeKeys, IsOfKeys}, Kept.{kept_by}, SessionState.{SessionState, kept_tree_of, kept_trees}}
+use Rattle.rio_session.specs.{Fills.{without_filled}, Items.{AreTreeKeys, IsOfKeys}, Kept.{kept_by}, SessionState.{SessionState, kept_tree_of, kept_trees}}
 use Rattle.rio_session.proofs.KeysBehind.{same_kind}
 
 -- ---- a map without one entry
 
-none_parts : {X : Type 0} (b : Bool) (x : X) (o : Option X) → cond b (Some x) o ≡ None → (b ≡ false) × (o ≡ None)
+pub none_parts : {X : Type 0} (b : Bool) (x : X) (o : Option X) → cond b (Some x) o ≡ None → (b ≡ false) × (o ≡ None)
 none_parts true x o e = absurd cc
 none_parts false x o e = (refl, e)
 
@@ -38,10 +37,10 @@ module _ {K X : Type 0} {R : K → K → Ordering} (total : IsTotalOrder R) (tie
       by q true e = sym (ap (get m) (tells_apart tie q k e) ∙ there)
       by q false e = refl
 
-  back : (x : X) → get m k ≡ Some x → entries m ≡ put R k x (entries (remove m k))
+  pub back : (x : X) → get m k ≡ Some x → entries m ≡ put R k x (entries (remove m k))
   back x there = sym (ap entries (put_back x there)) ∙ entries-insert total (remove m k) k x
 
-  none_left : find_key R k (entries (remove m k)) ≡ None
+  pub none_left : find_key R k (entries (remove m k)) ≡ None
   none_left = sym (get-entries (remove m k) k) ∙ get-remove total m k k ∙ ap (λ (b : Bool). cond b None (get m k)) ((eq_by_cmp_equiv total).refl k)
 
 -- what is told of entries, without the one that passes a test
@@ -73,7 +72,7 @@ map_removed f q (x ∷ xs) = by (q (f x)) (map_removed f q xs)
 
 module _ {A : Type 0} (keep q : A → Bool) where
   -- what is taken out is kept by a test, or it isn't
-  filter_kept : ((x : A) → q x ≡ true → keep x ≡ true) → (xs : List A) → filter keep (remove_key q xs) ≡ remove_key q (filter keep xs)
+  pub filter_kept : ((x : A) → q x ≡ true → keep x ≡ true) → (xs : List A) → filter keep (remove_key q xs) ≡ remove_key q (filter keep xs)
   filter_kept kept [] = refl
   filter_kept kept (x ∷ xs) = by (q x) (keep x) refl refl (filter_kept kept xs)
     where
@@ -87,7 +86,7 @@ module _ {A : Type 0} (keep q : A → Bool) where
           ∙ sym (ap (λ (b : Bool). cond b (filter keep xs) (x ∷ remove_key q (filter keep xs))) e)
       by false false e f later = ap (λ (b : Bool). cond b (x ∷ filter keep (remove_key q xs)) (filter keep (remove_key q xs))) f ∙ later
 
-  filter_dropped : ((x : A) → q x ≡ true → keep x ≡ false) → (xs : List A) → filter keep (remove_key q xs) ≡ filter keep xs
+  pub filter_dropped : ((x : A) → q x ≡ true → keep x ≡ false) → (xs : List A) → filter keep (remove_key q xs) ≡ filter keep xs
   filter_dropped dropped [] = refl
   filter_dropped dropped (x ∷ xs) = by (q x) (keep x) refl refl (filter_dropped dropped xs)
     where
@@ -112,7 +111,7 @@ none_removed q (x ∷ xs) none =
     let parts = none_parts (q x) x (find q xs) none in
     ap (λ (b : Bool). cond b xs (x ∷ remove_key q xs)) parts.0 ∙ (λ i. x ∷ none_removed q xs parts.1 i)
 
-kinds_less : (trees : List KeptTree) (q : KeyHead → Bool) (ks : List KeyHead) → AreTreeKeys ks trees → AreTreeKeys (remove_key q ks) trees
+pub kinds_less : (trees : List KeptTree) (q : KeyHead → Bool) (ks : List KeyHead) → AreTreeKeys ks trees → AreTreeKeys (remove_key q ks) trees
 kinds_less trees q [] are = tt
 kinds_less trees q (k ∷ ks) are = by (q k) (kinds_less trees q ks are.1)
   where
@@ -121,7 +120,7 @@ kinds_less trees q (k ∷ ks) are = by (q k) (kinds_less trees q ks are.1)
     by false later = (are.0, later)
 
 -- another name doesn't tie
-apart_name : (name other : List ℕ) → eq_by_cmp name_order name other ≡ false → bytes_eq other name ≡ false
+pub apart_name : (name other : List ℕ) → eq_by_cmp name_order name other ≡ false → bytes_eq other name ≡ false
 apart_name name other apart = by (bytes_eq other name) refl
   where
     by : (b : Bool) → bytes_eq other name ≡ b → b ≡ false
@@ -217,7 +216,7 @@ module _ (heads : List KeyHead) (trees : List KeptTree) (m : State) (h : KeyHead
     is_item x = bytes_eq x.0 h.name && (x.1 == h.cycle)
 
     -- the cycles of the keys of trees
-    cycles_without : map item_of_key (remove_key (is_at_cycle h.name h.cycle) (filter (items.is_tree_key trees) heads)) ≡ map item_of_tree others
+    pub cycles_without : map item_of_key (remove_key (is_at_cycle h.name h.cycle) (filter (items.is_tree_key trees) heads)) ≡ map item_of_tree others
     cycles_without =
         map_removed item_of_key is_item (filter (items.is_tree_key trees) heads)
         ∙ ap (remove_key is_item) (are.cycles ∙ ap (map item_of_tree) (back names_total names_tie m.trees h.name t there))
@@ -235,7 +234,7 @@ module _ (heads : List KeyHead) (trees : List KeptTree) (m : State) (h : KeyHead
     tree_kind : (k : KeyHead) → is_at_cycle h.name h.cycle k ≡ true → items.is_tree_key trees k ≡ true
     tree_kind k at = same_kind trees h.name h.cycle k at ∙ ap is_some named
 
-    trees_left : filter (items.is_tree_key trees) left ≡ remove_key (is_at_cycle h.name h.cycle) (filter (items.is_tree_key trees) heads)
+    pub trees_left : filter (items.is_tree_key trees) left ≡ remove_key (is_at_cycle h.name h.cycle) (filter (items.is_tree_key trees) heads)
     trees_left = filter_kept (items.is_tree_key trees) (is_at_cycle h.name h.cycle) tree_kind heads
 
     -- ---- no key that is left has the name
@@ -315,7 +314,7 @@ module _ {K X B : Type 0} (R : K → K → Ordering) (f : K × X → B) (q : B �
       by Greater is later = ap (λ (b : Bool). b || list_any q (map f (put R k x es))) (other e parts.0) ∙ later
 
 module _ (heads : List KeyHead) (trees : List KeptTree) (m : State) (h : KeyHead) (are : AreItemsOfState heads trees m) (is : head_of h.name (Some h.cycle) heads ≡ Some h) where
-  tree_cycle : (kt : KeptTree) → tree_of h.name trees ≡ Some kt → (t : Tree) → get m.trees h.name ≡ Some t → t.cycle ≡ h.cycle
+  pub tree_cycle : (kt : KeptTree) → tree_of h.name trees ≡ Some kt → (t : Tree) → get m.trees h.name ≡ Some t → t.cycle ≡ h.cycle
   tree_cycle kt named t there =
       let of_trees = filter (items.is_tree_key trees) heads in
       let own = found (is_at_cycle h.name h.cycle) h heads is in
@@ -361,7 +360,7 @@ classes_stay m h = same_classes (names_tree m h.name) m h
 pub delete_stands : (s : SessionState) (m : State) (h : KeyHead) → IsOfKeys s m → head_of h.name (Some h.cycle) s.heads ≡ Some h → IsOfKeys (kept_by s m (Delete h.name h.cycle)) (state_behind m (Delete h.name h.cycle))
 delete_stands s m h keys is =
     let trees = kept_trees s in
-    let same : without_tree h.name trees ≡ map kept_tree_of (without_header h.name s.trees) = sym (map_removed kept_tree_of (is_of_name h.name) s.trees) in
+    let same : without_tree h.name trees ≡ map kept_tree_of (without_filled h.name s.trees) = sym (map_removed kept_tree_of (is_of_name h.name) s.trees) in
     let kind : is_some (tree_of h.name trees) ≡ names_tree m h.name = sym (tree_is s.heads trees m keys.keys h.name) in
     let left = without_head h.name h.cycle s.heads in
     record {

@@ -9,10 +9,10 @@ use Rattle.rio_model.specs.{Declaring.{class_limit, declared, rule_fault}, State
 use Rattle.rio_model.specs.declared.declare.DeclareFault.{DeclareFault, TheVariants.{TooMany}}
 use Rattle.rio_chain.specs.{Changes.{with_record}, Placing.{file_end, place_of, with_segment}, Segments.{IsRecord}, declared.record.NewRecord.{NewRecord}}
 use Rattle.rio_judge.specs.declared.work.NewClass.{NewClass}
-use Rattle.rio_state.specs.Closing.{close_need, end_limit}
+use Rattle.rio_state.specs.Closing.{end_limit}
 use Rattle.rio_effect.specs.ClassRecord.{list_key, next_list_cycle}
-use Rattle.rio_recover.specs.{Classes.{HasListCycle}, Closable.{kept_with}}
-use Rattle.rio_session.specs.{Changing.{Changing, ChangesFile}, Kept.{released_link, released_segment}, Lists.{CanBeListedAt, CanReplace, IsDeclarable, IsListRecord, listing, listing_at, with_new}}
+use Rattle.rio_recover.specs.Classes.{HasListCycle}
+use Rattle.rio_session.specs.{Changing.{Changing, ChangesFile}, Due.{need_with}, Kept.{released_link, released_segment}, Lists.{CanBeListedAt, CanReplace, IsDeclarable, IsListRecord, listing, listing_at, with_new}}
 use Rattle.rio_session.specs.{Says.{NotDone}, SessionState.{SessionState}}
 use Rattle.rio_session.specs.declared.fault.SessionFault.{SessionFault, TheVariants.{HostFault, SayFault, NoMemory}}
 use Rattle.rio_session.specs.SessionState.{baskets_of}
@@ -81,7 +81,7 @@ module _ (s : SessionState) (place : ℕ) (made : NewRecord) (r : IsListRecord s
     place = seek_is ∙ at.place_is ∙ ap (place_of s.segments) (sym r.long);
     spare = r.spare;
     cycle = omega (arith, cycle_is, at.cycle);
-    room = subst (λ (x : ℕ × ℕ). file_end (with_segment x.0 x.1 s.segments) + close_need (kept_with s.name s.heads (2 + length s.heads + length (baskets_of s))) ≤ end_limit) (λ i. (sym seek_is i, sym r.long i)) at.room;
+    room = subst (λ (x : ℕ × ℕ). file_end (with_segment x.0 x.1 s.segments) + need_with s.name s.heads (2 + length s.heads + length (baskets_of s)) s.trees ≤ end_limit) (λ i. (sym seek_is i, sym r.long i)) at.room;
   }
 
   -- and with it the same is changed

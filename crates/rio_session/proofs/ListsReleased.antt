@@ -5,8 +5,8 @@ use Rattle.std.specs.List.{cons_option}
 use Rattle.rio_key.specs.declared.head.KeyHead.{KeyHead}
 use Rattle.rio_chain.specs.{Changes.{with_gap, with_record, with_rest, without_record}, Segments.{GapAt, HoldsLinks, IsChain, Link, RecordAt}}
 use Rattle.rio_chain.proofs.Words.{held_long}
-use Rattle.rio_state.specs.{Closing.{item_heads, kept_in, kept_of, kept_with, name_in}, KeyedRecords.{KeyedRecord, first_place, info_key, is_info_key, keyed_records, top_keys, tree_records}}
-use Rattle.rio_state.specs.{OneMore.{HasOneMoreIn, KeyIsRead, keyed_bytes}, Reads.{info_place}, Referred.{is_item_record, is_named_basket, is_referred}, TreeLengths.{none_pending}}
+use Rattle.rio_state.specs.{Closing.{item_heads, kept_of, kept_with, name_in}, KeyedRecords.{KeyedRecord, first_place, info_key, is_info_key, keyed_records, top_keys, tree_records}}
+use Rattle.rio_state.specs.{OneMore.{HasOneMoreIn, KeyIsRead, keyed_bytes}, Reads.{info_place}, Referred.{is_item_record, is_named_basket, is_referred}, TreeLengths.{PendingRows}}
 use Rattle.rio_state.proofs.{Insertion.{behind}, LessRecords.{OwnRecord, gap_records, own_record, record_late, records_less, with_own}, Members.{In}, MoreRecords.{keyed_link}}
 use Rattle.rio_state.proofs.{Stays.{tops_same}, Unreferred.{info_kept}}
 use Rattle.rio_effect.proofs.ClassEffect.{not_top}
@@ -83,9 +83,10 @@ module _ (file : List ℕ) (place : ℕ) (bytes : List ℕ) (head : KeyHead) (re
 
   -- where the list isn't referred to any more, the file keeps what it kept
   pub list_released : (links : List Link) → IsChain links file → In r (keyed_records links) → is_info_key r.head ≡ true → r.head.seek ≢ first_place
-      → is_referred (keyed_records (with_record place bytes links)) r ≡ false → kept_in (without_record r.head.seek (with_record place bytes links)) ≡ kept_in (with_record place bytes links)
+      → is_referred (keyed_records (with_record place bytes links)) r ≡ false → (pending : PendingRows)
+      → kept_with pending (without_record r.head.seek (with_record place bytes links)) ≡ kept_with pending (with_record place bytes links)
   unfolding kept_with
-  list_released links chain i list later none =
+  list_released links chain i list later none pending =
       let old = keyed_records (with_record place bytes links) in
       let new = keyed_records (left (with_record place bytes links)) in
       let less : HasOneMoreIn new old r = less_with 100 links chain.links_are i in
@@ -95,4 +96,4 @@ module _ (file : List ℕ) (place : ℕ) (bytes : List ℕ) (head : KeyHead) (re
       let info = info_kept old new r less front.1 in
       let tops : top_keys new ≡ top_keys old = sym (tops_same new old r less (not_top r.head list)) in
       let name = first_with links chain later in
-      λ i. kept_of none_pending (name i) (info i) (item_heads (tops i)) (tree_records (tops i))
+      λ i. kept_of pending (name i) (info i) (item_heads (tops i)) (tree_records (tops i))

@@ -1,13 +1,14 @@
 -- What a close of a state needs, by the keys of its objects.
 use Rattle.std.proofs.Common.{◌≡◌, ℕ, ◌+◌, ◌≤◌, true, false, Bool, cond, List, [], ◌∷◌, map, length, codes, Option, Some, None, refl, sym, ap, ◌∙◌, arith}
-use Rattle.std.proofs.{lemmas.Bool.{and_from, and_parts, eqb-true}, lemmas.List.{Filters.{sum_by-filter_both}, Sums.{sum_by-append, sum_by-cons}}, lemmas.Slice.Eq.{bytes_eq-Decides}}
-use Rattle.std.specs.{FinMap.{entries, len-entries}, List.{filter, list_all, sum_by}, Option.{option_map_or}}
+use Rattle.std.proofs.{lemmas.List.{length-append, length-map}, lemmas.Bool.{and_from, and_parts, eqb-true}, lemmas.List.{Filters.{sum_by-filter_both}, Sums.{sum_by-append, sum_by-cons}}, lemmas.Slice.Eq.{bytes_eq-Decides}}
+use Rattle.std.specs.{FinMap.{entries, len-entries}, List.{filter, flat_map, list_all, sum_by}, Option.{option_map_or}}
 use Rattle.rio_key.specs.{Written.{written_key}, declared.head.KeyHead.{KeyHead}}
 use Rattle.rio_value.specs.declared.value.Value.{Value}
 use Rattle.rio_dir.specs.Table.{heads_size, with_head}
 use Rattle.rio_tree_table.specs.declared.table.KeptTree.{KeptTree}
 use Rattle.rio_chain.specs.{Placing.{record_count}, Record.{new_key}, declared.segment.Segment.{Segment}}
-use Rattle.rio_state.proofs.CloseSizes.{close_size_is_need}
+use Rattle.rio_tree.specs.declared.basket_at.BasketAt.{BasketAt}
+use Rattle.rio_fill.specs.Fill.{BranchFill}
 use Rattle.rio_state.specs.{KeyedRecords.{KeyedRecord, is_tree_key}, Left.{info_head}, Sizes.{close_size}}
 use Rattle.rio_machine.specs.{Limits.{head_length}, State.{NameAndCycle, State, Tree}}
 use Rattle.rio_chain.proofs.Records.{key_long}
@@ -15,12 +16,13 @@ use Rattle.rio_chain.specs.declared.record.NewRecord.{NewRecord}
 use Rattle.rio_step.specs.{ItemKeys.{told_by_key}, KeptItems.{AreItemsOfState, is_object_key, item_of_key, item_of_tree}, Step.{Listed, listed_object, object_listed, tree_listed}, Refusing.{object_class_name}}
 use Rattle.rio_step.specs.KeptItems as items
 use Rattle.rio_judge.proofs.ItemsOfState.{count_is}
+use Rattle.rio_state.proofs.CloseSizes.{close_size_is_need}
 use Rattle.rio_state.specs.Closing.{close_need, end_limit}
-use Rattle.rio_recover.specs.Closable.{IsClosable, is_sized, kept_with, list_count}
+use Rattle.rio_recover.specs.Closable.{is_sized, kept_with, list_count}
 use Rattle.rio_recover.proofs.Rooms.{need_same}
-use Rattle.rio_session.specs.{Items.{AreTreeKeys}, Puts.{CanBePut}, Session.{SessionState}}
-use Rattle.rio_session.specs.Marks.{key_of_object, key_of_tree, kept_of, state_need}
-use Rattle.rio_session.proofs.Keeps.{size_with}
+use Rattle.rio_session.specs.{Due.{IsClosableWith, due_of, kept_records, need_with, written_count}, Fills.{FilledTree, places_of_fill, places_of_trees}, Items.{AreTreeKeys}, Puts.{CanBePut}, Session.{SessionState}}
+use Rattle.rio_session.specs.Marks.{basket_total, key_of_object, key_of_tree, kept_of, state_need}
+use Rattle.rio_session.proofs.{FillSums.{AreLow, need_bounds, need_by_due}, Keeps.{size_with}}
 
 abbrev written_size : KeyHead → ℕ
 written_size h = length (written_key h)
@@ -106,10 +108,10 @@ pub list_counted : (info : Option KeyHead) (found : Option KeyedRecord) → info
 list_counted info None is = ap list_count (sym is)
 list_counted info (Some r) is = ap list_count (sym is)
 
--- what a close of a state needs, by its keys, how many class lists are kept and how many baskets
+-- what a close of a state needs, by its keys, how many class lists are kept, and which baskets
 module _ (heads : List KeyHead) (trees : List KeptTree) (m : State) (are : AreItemsOfState heads trees m) (kinds : AreTreeKeys heads trees) (sized : list_all is_sized heads ≡ true) where
-  all_sizes : (name : List ℕ) (lists baskets : ℕ) → heads_size (kept_of name lists baskets m).heads ≡ heads_size heads
-  all_sizes name lists baskets =
+  all_sizes : (name : List ℕ) (lists : ℕ) (filled : List FilledTree) → heads_size (kept_of name lists filled m).heads ≡ heads_size heads
+  all_sizes name lists filled =
       let of_objects = filter (is_object_key trees) heads in
       let of_trees = filter (items.is_tree_key trees) heads in
       omega (
@@ -120,11 +122,34 @@ module _ (heads : List KeyHead) (trees : List KeptTree) (m : State) (are : AreIt
         sum_by-filter_both (items.is_tree_key trees) (is_object_key trees) (λ h. refl) written_size heads,
       )
 
-  pub need_by_keys : (name : List ℕ) (lists baskets : ℕ) → state_need name lists baskets m ≡ close_need (kept_with name heads (1 + lists + length heads + baskets))
+  pub need_by_keys : (name : List ℕ) (lists : ℕ) (filled : List FilledTree) → state_need name lists filled m ≡ need_with name heads (1 + lists + length heads + basket_total filled) filled
   unfolding state_need
-  need_by_keys name lists baskets =
-      let count : (kept_of name lists baskets m).count ≡ 1 + lists + length heads + baskets = omega (arith, count_is heads trees m are, len-entries m.objects, len-entries m.trees) in
-      need_same (kept_of name lists baskets m) (kept_with name heads (1 + lists + length heads + baskets)) refl (all_sizes name lists baskets) count refl refl
+  need_by_keys name lists filled =
+      let count : (kept_of name lists filled m).count ≡ 1 + lists + length heads + basket_total filled = omega (arith, count_is heads trees m are, len-entries m.objects, len-entries m.trees) in
+      need_same (kept_of name lists filled m) (kept_records name heads (1 + lists + length heads + basket_total filled) filled) refl (all_sizes name lists filled) count refl refl
+
+-- there are as many baskets as they have places
+pub places_counted : (branches : List BranchFill) → written_count branches ≡ length (flat_map (λ (b : BranchFill). map (λ (at : BasketAt). at.seek) b.baskets) branches)
+places_counted [] = refl
+places_counted (b ∷ bs) =
+    omega (
+      arith,
+      sum_by-cons (λ (b : BranchFill). length b.baskets) b bs,
+      length-append (map (λ (at : BasketAt). at.seek) b.baskets) (flat_map (λ (b : BranchFill). map (λ (at : BasketAt). at.seek) b.baskets) bs),
+      length-map b.baskets (λ (at : BasketAt). at.seek),
+      places_counted bs,
+    )
+
+pub baskets_counted : (filled : List FilledTree) → basket_total filled ≡ length (places_of_trees filled)
+baskets_counted [] = refl
+baskets_counted (t ∷ ts) =
+    omega (
+      arith,
+      sum_by-cons (λ (t : FilledTree). written_count t.fill.branches) t ts,
+      length-append (places_of_fill t.fill) (places_of_trees ts),
+      places_counted t.fill.branches,
+      baskets_counted ts,
+    )
 
 -- ---- by lengths
 
@@ -134,27 +159,29 @@ need_is_size name heads count =
     let same : count + 0 ≡ count = omega arith in
     omega (arith, close_size_is_need (kept_with name heads count), ap (close_size name (heads_size heads)) same)
 
-size_bounds : (name : List ℕ) (heads live limit : ℕ) → close_size name heads live ≤ limit → (heads ≤ limit) × (live ≤ limit)
+size_more : (name : List ℕ) (heads few count : ℕ) → few ≤ count → close_size name heads few ≤ close_size name heads count
 unfolding close_size
-size_bounds name heads live limit le = (omega (arith, le), omega (arith, le))
+size_more name heads few count less = omega (arith, less)
+
+-- with trees to save no less is needed
+pub need_least : (name : List ℕ) (heads : List KeyHead) (count : ℕ) (trees : List FilledTree) → close_need (kept_with name heads count) ≤ need_with name heads count trees
+need_least name heads count trees =
+    omega (arith, need_is_size name heads count, need_by_due name heads count trees, size_more name (heads_size heads) count (count + (due_of trees).baskets) (omega arith))
 
 -- where there is room for a close, there are few keys and records
-pub kept_bounds : (segments : List Segment) (heads : List KeyHead) (info : Option KeyHead) (baskets : List ℕ) (name : List ℕ) → IsClosable segments heads info baskets name
-    → (heads_size heads ≤ end_limit) × (record_count segments ≤ end_limit)
-kept_bounds segments heads info baskets name kept =
-    size_bounds name (heads_size heads) (record_count segments) end_limit (omega (arith, kept.room, need_is_size name heads (record_count segments)))
+pub kept_bounds : (segments : List Segment) (heads : List KeyHead) (trees : List FilledTree) (info : Option KeyHead) (name : List ℕ) → IsClosableWith segments heads trees info name → AreLow heads (record_count segments) trees end_limit
+kept_bounds segments heads trees info name kept = need_bounds name heads (record_count segments) trees end_limit (omega (arith, kept.room))
 
 -- where there is room for a close with one key more, its bytes and those of the others are few
 pub key_bytes : (s : SessionState) (made : NewRecord) → CanBePut s made → heads_size s.heads + length (written_key made.head) ≤ end_limit
 key_bytes s made can =
-    let bounds = size_bounds s.name (heads_size (with_head made.head s.heads)) (record_count s.segments + 1) end_limit
-    (omega (arith, can.room, need_is_size s.name (with_head made.head s.heads) (record_count s.segments + 1))) in
-    omega (arith, bounds.0, size_with made.head s.heads)
+    let low = need_bounds s.name (with_head made.head s.heads) (record_count s.segments + 1) s.trees end_limit (omega (arith, can.room)) in
+    omega (arith, low.heads, size_with made.head s.heads)
 
 -- what a close needs with one key more
-pub need_with_key : (name : List ℕ) (heads : List KeyHead) (h : KeyHead) (class own : List ℕ) (count : ℕ) → is_sized h ≡ true → h.class ≡ class → h.name ≡ own
-    → close_need (kept_with name (with_head h heads) count) ≡ close_size name (heads_size heads + head_length class own) count
-need_with_key name heads h class own count sized a b =
+pub need_with_key : (name : List ℕ) (heads : List KeyHead) (trees : List FilledTree) (h : KeyHead) (class own : List ℕ) (count : ℕ) → is_sized h ≡ true → h.class ≡ class → h.name ≡ own
+    → need_with name (with_head h heads) count trees ≡ (due_of trees).bytes + close_size name (heads_size heads + head_length class own) (count + (due_of trees).baskets)
+need_with_key name heads trees h class own count sized a b =
     let long : length (written_key h) ≡ head_length class own = eqb-true (length (written_key h)) (head_length h.class h.name) sized ∙ ap (λ (x : List ℕ × List ℕ). head_length x.0 x.1) (λ i. (a i, b i)) in
-    need_is_size name (with_head h heads) count
-    ∙ ap (λ (n : ℕ). close_size name n count) (size_with h heads ∙ ap (λ (n : ℕ). heads_size heads + n) long)
+    need_by_due name (with_head h heads) count trees
+    ∙ ap (λ (n : ℕ). (due_of trees).bytes + close_size name n (count + (due_of trees).baskets)) (size_with h heads ∙ ap (λ (n : ℕ). heads_size heads + n) long)

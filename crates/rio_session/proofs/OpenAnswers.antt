@@ -4,8 +4,8 @@ use Rattle.std.specs.Prelude.{MatchBool}
 use Rattle.std.proofs.lemmas.Option.{none-some}
 use Rattle.rio_create.specs.declared.fault.CreateFault.{CreateFault, TheVariants.{NoMemory as NoRoomToMake, HostFault as NotMade}}
 use Rattle.rio_head.specs.{Head.{head_at}}
-use Rattle.rio_host.specs.{Host.{IsLawful, IsQuiet, View}, OnlyReads.{OnlyReads}}
-use Rattle.rio_host.proofs.ReadsLaws.{left_before, reads_join}
+use Rattle.rio_host.specs.{Host.{Any, Becomes, IsLawful, IsQuiet, View}, Image.{Same}, OnlyReads.{OnlyReads}}
+use Rattle.rio_host.proofs.{Images.{becomes_as, same_becomes}, ReadsLaws.{left_before, reads_join}}
 use Rattle.rio_dir.specs.{Closed.{fault_of}, Unborn.{header_fault, is_unborn}}
 use Rattle.rio_recover.specs.Recovered.{IsAnswer}
 use Rattle.rio_recover.specs.declared.fault.RecoverFault.{RecoverFault, TheVariants.{BadFile, ReadOnly, NoMemory, HostFault}}
@@ -28,6 +28,9 @@ reads_quiet a b law quiet calls image said bytes left holds = quiet image said b
 
 pub reads_unclosed : (file : List ℕ) (a b : View) → IsLawful b → IsQuiet a → a.holds ≡ Some file → OnlyReads a b → LeavesFileOrUnclosed file b
 reads_unclosed file a b law quiet holds calls image said left = inl (quiet image said file (left_before law calls image said left) holds)
+
+pub reads_told : (a b : View) → OnlyReads a b → Becomes Any a.holds b.holds
+reads_told a b calls = becomes_as Same Any a.holds b.holds (λ x y e. tt) (same_becomes a.holds b.holds calls.holds)
 
 -- ---- a file against which nothing stands
 

@@ -1,13 +1,13 @@
 -- A made file that is opened: marked as open, and without its garbage.
-use Rattle.std.proofs.{Common.{◌≡◌, ℕ, ◌+◌, ◌<◌, ◌^◌, List, length, Option, Some, None, Bool, false, if◌then◌else◌, refl, sym, ap, subst, ◌∙◌, arith}, lemmas.{Option.{same_Some}}}
-use Rattle.std.specs.{Prelude.{MatchBool}, Option.{option_map_or}}
+use Rattle.std.proofs.{Common.{◌≡◌, map, ℕ, ◌+◌, ◌<◌, ◌≤◌, ◌^◌, List, [], length, Option, Some, None, Bool, false, if◌then◌else◌, refl, sym, ap, subst, ◌∙◌, arith}, lemmas.{Option.{same_Some}}}
+use Rattle.std.specs.{Prelude.{MatchBool}, List.{All}, Option.{option_map_or}}
 use Rattle.rio_key.specs.declared.head.KeyHead.{KeyHead}
 use Rattle.rio_num.proofs.ReadLaws.{ok_is}
 use Rattle.rio_head.specs.{Form.{is_large_head}, declared.fault.HeadFault.{HeadFault}, declared.head.FileHead.{FileHead}}
 use Rattle.rio_host.specs.Host.{Any, Becomes, IsWithin, View}
 use Rattle.rio_host.proofs.Images.{told_before}
 use Rattle.rio_dir.specs.{Table.{heads_size}, Unborn.{is_unborn}}
-use Rattle.rio_chain.specs.{Becoming.{FileBecomes}, Chains.{HasChain, HoldsChain}, Placing.{record_count}, Segments.{IsChain, Link}, Stops.{KeepsFront}, Walks.{Told}, declared.segment.Segment.{Segment}}
+use Rattle.rio_chain.specs.{Becoming.{FileBecomes}, Chains.{HasChain, HoldsChain}, Adjoining.{AreSegments}, Placing.{file_end, record_count}, Segments.{IsChain, Link}, Stops.{KeepsFront}, Walks.{Told}, declared.segment.Segment.{Segment}}
 use Rattle.rio_chain.proofs.{OneChain.{chain_one}, Words.{word_of_bytes, word_one}}
 use Rattle.rio_close.specs.EndWord.{SaysEnd}
 use Rattle.rio_close.proofs.EndWord.{chain_ignores_end, mark_opens_file, state_ignores_end}
@@ -15,13 +15,17 @@ use Rattle.rio_create.specs.NewFile.{first_links, new_file}
 use Rattle.rio_effect.proofs.NeedsByKeys.{items_same}
 use Rattle.rio_machine.specs.State.{State, empty_state}
 use Rattle.rio_recover.specs.{Cleaning.{HoldsCleaned, cleaned}, Closable.{IsClosable, list_count}, Recovered.{IsRecovered}, Trees.{AreTreesOf, trees_at}, declared.recovery.Recovered.{Recovered}}
-use Rattle.rio_state.specs.{DirectoryKeys.{AreKeysOf}, Closing.{item_heads, kept_count, kept_in, kept_with, name_in}, Contents.{file_classes}, KeyedRecords.{KeyedRecord, info_key, keyed_records, top_keys, tree_records}}
-use Rattle.rio_state.specs.{TreeLengths.{none_pending}, Trees.{all_places_named}}
+use Rattle.rio_state.specs.{DirectoryKeys.{AreKeysOf}, Closing.{end_limit, held_with, item_heads, kept_count, kept_in, kept_with, name_in}, Contents.{file_classes}, KeyedRecords.{KeyedRecord, info_key, keyed_records, top_keys, tree_records}}
+use Rattle.rio_state.specs.{TreeLengths.{PendingRows, none_pending}, Trees.{all_places_named}}
 use Rattle.rio_state.specs.{Left.{HasOpenHead, IsMarkedOpen, ReadsClosedUnlessOpen, info_head, open_end}, Reads.{AreRecordsOf, ReadsAsMade, ReadsAsState}}
 use Rattle.rio_state.proofs.{HeldLimits.{held_is_limited}, NonePending.{all_idle}, OneState.{reads_one}}
 use Rattle.rio_step.specs.Runs.{saved_of}
-use Rattle.rio_session.specs.{Opening.{BeginsOn, OpensMade}, Session.{HoldsState, SessionState, StandsFor}, SessionState.{baskets_of}}
-use Rattle.rio_session.proofs.{CleanItems.{items_of_clean}, Needs.{kept_bounds}, OpenNew.{kept_name, stand_for}, Opened.{IsOpenImage, chain_long, open_image}, TreesOfFile.{places_count, trees_still}, TreesRead.{records_saved}}
+use Rattle.rio_state.specs.Sizes.{close_size}
+use Rattle.rio_fill.specs.Heads.{CanBeFilled}
+use Rattle.rio_recover.specs.{Trees.{places_of}, declared.trees.TreeAt.{TreeAt}}
+use Rattle.rio_session.specs.{Due.{IsClosableWith, need_with}, declared.open_tree.Due.{Due}, Fills.{filled_tree_of, places_of_trees, tree_at_of}, Items.{IsOfKeys}, Opening.{BeginsOn, OpensMade}, Session.{HoldsState, SessionState, StandsFor}, SessionState.{baskets_of, headers_of}}
+use Rattle.rio_session.proofs.{CleanItems.{items_of_clean}, FillSums.{need_bounds, need_by_due}, HeaderOfFill.{all_fillable, none_due, places_begun, trees_back, trees_sound}, KeepsTrees.{with_saves}, OpenNew.{kept_name, stand_for}, Opened.{IsOpenImage, chain_long, open_image}, TreesBegun.{CanGoOn, idle, opens_begun, rows_begun}, TreesOfFile.{trees_still}, TreesRead.{records_saved}}
+use Rattle.rio_recover.proofs.Rooms.{places_count}
 
 -- ---- marks
 
@@ -110,7 +114,7 @@ module _ (file : List ℕ) (r : Recovered) (made : is_unborn file ≡ false) (re
         pub segments : s.segments ≡ after.chain.segments
         pub classes : s.classes ≡ r.registry
         pub heads : s.heads ≡ r.table.heads
-        pub trees : s.trees ≡ r.trees
+        pub trees : s.trees ≡ map filled_tree_of r.trees
         pub info : s.info ≡ r.info
         pub name : s.name ≡ r.name
         pub nbytes_name : s.nbytes_name ≡ r.nbytes_name
@@ -125,12 +129,11 @@ module _ (file : List ℕ) (r : Recovered) (made : is_unborn file ≡ false) (re
         its_keys : AreKeysOf (keyed_records left) s.heads
         its_keys = subst (AreKeysOf (keyed_records left)) (sym keeps.heads) (clean.clean.keys r.table.heads rec.keys)
 
-        its_trees : AreTreesOf (keyed_records left) s.trees
-        its_trees =
+        left_trees : AreTreesOf (keyed_records left) r.trees
+        left_trees =
             let info = clean.clean.info in
             let headers = clean.clean.headers in
-            let are = trees_still (keyed_records links) (keyed_records left) r.trees (λ i. trees_at (file_classes (info i)) (headers i)) rec.trees in
-            subst (AreTreesOf (keyed_records left)) (sym keeps.trees) are
+            trees_still (keyed_records links) (keyed_records left) r.trees (λ i. trees_at (file_classes (info i)) (headers i)) rec.trees
 
         its_info : s.info ≡ info_head (info_key (keyed_records left))
         its_info = keeps.info ∙ rec.info ∙ sym (ap info_head clean.clean.info)
@@ -138,16 +141,23 @@ module _ (file : List ℕ) (r : Recovered) (made : is_unborn file ≡ false) (re
         its_name : s.name ≡ name_in (keyed_records left)
         its_name = keeps.name ∙ rec.name ∙ sym clean.clean.name
 
-        module _ (m : State) (reads : ReadsAsState file m) where
+        module _ (m : State) (reads : ReadsAsState file m) (can : CanGoOn m r.trees) where
+          its_trees : AreTreesOf (keyed_records left) (headers_of s)
+          its_trees = subst (AreTreesOf (keyed_records left)) (sym (ap (map tree_at_of) keeps.trees ∙ trees_back r.trees (all_fillable r.trees can.heads))) left_trees
+
           its_records : AreRecordsOf (keyed_records left) m
           its_records = clean.clean.records m (records_of m reads)
+
+          its_stand : IsOfKeys s m
+          its_stand =
+              stand_for s left m r.trees (sym (keeps.classes ∙ rec.classes ∙ ap (λ (n : State). n.classes) (reads_one file rec.m m rec.reads reads))) keeps.trees its_keys left_trees its_records
 
           -- as many records as the key list, the class list and the first record tell
           its_count : (kept_in left).count ≡ record_count s.segments
           its_count =
               let items = items_same (keyed_records left) s.heads m its_keys its_records (λ h. 0) in
               let listed : list_count s.info ≡ list_count (info_head (info_key (keyed_records left))) = ap list_count its_info in
-              omega (arith, kept_items left, items.long, listed, count_listed (info_key (keyed_records left)), places_count (file_classes (info_key (keyed_records left))) (tree_records (top_keys (keyed_records left))) s.trees its_trees.each, keeps.closable.count)
+              omega (arith, kept_items left, items.long, listed, count_listed (info_key (keyed_records left)), places_count (file_classes (info_key (keyed_records left))) (tree_records (top_keys (keyed_records left))) r.trees left_trees.each, ap length (ap places_of_trees keeps.trees ∙ places_begun r.trees), keeps.closable.count)
 
           holds_made : HoldsState s m clean.now
           holds_made = record {
@@ -155,14 +165,17 @@ module _ (file : List ℕ) (r : Recovered) (made : is_unborn file ≡ false) (re
             chain = its_chain;
             head = subst (HasOpenHead clean.now) (sym keeps.nbytes_name) (image_open m reads left clean.now clean.front clean.chain.chain its_records).head;
             records = saved_records m reads left clean.now clean.front clean.chain.chain its_records;
-            stands = stand_for s left m (sym (keeps.classes ∙ rec.classes ∙ ap (λ (n : State). n.classes) (reads_one file rec.m m rec.reads reads))) its_keys its_trees its_records;
+            stands = its_stand;
             keys = its_keys;
             items = items_of_clean clean.now left m clean.chain.chain its_records clean.clean.none;
             trees = its_trees;
+            fillable = can.fillable;
+            rows = rows_begun left m its_records s.heads r.trees its_keys left_trees can s keeps.trees its_stand;
+            opens = opens_begun left m its_records s.heads r.trees its_keys left_trees can s keeps.trees its_stand;
             info = its_info;
             name = kept_name left ∙ sym its_name;
-            count = its_count;
-            held = λ less. omega (arith, held_is_limited file links m rec.chain.chain (records_of m reads) rec.headers, (clean.clean.need none_pending).held, keeps.opened, keeps.costs);
+            count = ap (λ (p : PendingRows). (kept_with p left).count) (idle left m its_records) ∙ its_count;
+            held = λ less. omega (arith, held_is_limited file links m rec.chain.chain (records_of m reads) rec.headers, (clean.clean.need none_pending).held, ap (λ (p : PendingRows). held_with p left) (idle left m its_records), keeps.opened, keeps.costs);
           }
 
           pub stands_made : (text : List ℕ) → v.said ≡ Some text → StandsFor v s m text
@@ -185,7 +198,26 @@ module _ (file : List ℕ) (r : Recovered) (made : is_unborn file ≡ false) (re
 
 -- what is written of the keys of a file that can be closed
 pub size_low : (segments : List Segment) (heads : List KeyHead) (info : Option KeyHead) (baskets name : List ℕ) → IsClosable segments heads info baskets name → heads_size heads < 2 ^ 64
-size_low segments heads info baskets name closable = let low = (kept_bounds segments heads info baskets name closable).0 in omega (arith, low)
+size_low segments heads info baskets name closable =
+    let low = need_bounds name heads (record_count segments) [] end_limit (omega (arith, closable.room)) in
+    omega (arith, low.heads)
+
+-- no saves are due
+pub with_begun : (segments : List Segment) (heads : List KeyHead) (trees : List TreeAt) (info : Option KeyHead) (name : List ℕ) → AreSegments segments → IsClosable segments heads info (places_of trees) name
+    → All (λ t. CanBeFilled t.head) trees → All (λ t. t.head.entries < 2 ^ 63) trees → IsClosableWith segments heads (map filled_tree_of trees) info name
+with_begun segments heads trees info name shape kept can few =
+    let places = places_begun trees in
+    let none = none_due trees in
+    let room : file_end segments + need_with name heads (record_count segments) (map filled_tree_of trees) ≤ end_limit =
+    omega (
+      arith,
+      kept.room,
+      need_by_due name heads (record_count segments) (map filled_tree_of trees),
+      need_by_due name heads (record_count segments) [],
+      ap (λ (d : Due). d.bytes) none,
+      ap (λ (d : Due). close_size name (heads_size heads) (record_count segments + d.baskets)) none,
+    ) in
+    with_saves segments heads (map filled_tree_of trees) info name shape (subst (λ (ps : List ℕ). IsClosable segments heads info ps name) (sym places) kept) room (trees_sound trees can few)
 
 -- ---- the host
 

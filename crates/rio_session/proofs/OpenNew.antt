@@ -1,32 +1,39 @@
 -- What a session keeps of a file that is just made, and what it stands for.
-use Rattle.std.proofs.{Common.{◌≡◌, inl, inr, ℕ, zero, suc, ◌+◌, ◌<◌, ◌≤◌, ◌&&◌, not, nat_lt, List, [], ◌∷◌, ◌++◌, length, Option, Some, None, Bool, true, false, if◌then◌else◌, refl, sym, ap, subst, ◌∙◌, arith}, lemmas.Bool.{and_from, and_parts, ltb-true}, lemmas.Option.{same_Some}, lemmas.List.{Sorted.{IsPermutation-refl}, Sums.{sum_by-cons}}}
-use Rattle.std.specs.{Prelude.{MatchBool, slice_get}, List.{list_all, sum_by, Sorted.{IsPermutation}}, Str.{bytes_eq}}
+use Rattle.std.proofs.{Common.{◌≡◌, inl, inr, map, ℕ, zero, suc, ◌+◌, ◌<◌, ◌≤◌, ◌&&◌, not, nat_lt, List, [], ◌∷◌, ◌++◌, length, Option, Some, None, Bool, true, false, if◌then◌else◌, refl, sym, ap, subst, ◌∙◌, arith}, lemmas.Bool.{and_from, and_parts, ltb-true}, lemmas.Option.{same_Some}, lemmas.Simd.{map-map}, lemmas.List.{Elements.{All-nil}, Sorted.{IsPermutation-refl}, Sums.{sum_by-cons}}}
+use Rattle.std.specs.{Prelude.{MatchBool, slice_get}, FinMap.{get-empty}, List.{All, list_all, sum_by, Sorted.{IsPermutation}}, Str.{bytes_eq}, Option.{option_map_or}}
 use Rattle.rio_host.specs.Host.{Any, Becomes, View}
 use Rattle.rio_key.specs.declared.head.KeyHead.{KeyHead}
 use Rattle.rio_dir.specs.Unborn.{is_unborn}
+use Rattle.rio_num.specs.Word.{name_order}
 use Rattle.rio_chain.specs.{Chains.{HasChain, HoldsChain}, Placing.{file_end, record_count}, Segments.{Link}, Stops.{KeepsFront}, declared.segment.Segment.{Segment}}
 use Rattle.rio_close.specs.EndWord.{SaysEnd}
-use Rattle.rio_machine.specs.State.{State, empty_state}
-use Rattle.rio_state.specs.{Closing.{close_need, kept_in, kept_with, name_in}, Contents.{file_classes}, KeyedRecords.{KeyedRecord, info_key, is_outdated, is_tree_key, is_tree_record, keyed_records, object_records, top_keys, tree_records}, Left.{HasOpenHead, info_head, open_end}, DirectoryKeys.{AreKeysOf}}
-use Rattle.rio_state.specs.{Reads.{AreRecordsOf}}
+use Rattle.rio_machine.specs.State.{State, Tree, empty_state}
+use Rattle.rio_state.specs.{Closing.{KeptRecords, close_need, held_with, kept_in, kept_with, name_in}, Contents.{file_classes}, KeyedRecords.{KeyedRecord, info_key, is_outdated, is_tree_key, is_tree_record, keyed_records, object_records, top_keys, tree_records}, Left.{HasOpenHead, info_head, open_end}, DirectoryKeys.{AreKeysOf}}
+use Rattle.rio_state.specs.{Reads.{AreRecordsOf}, TreeLengths.{PendingRows, none_pending, pending_in}}
 use Rattle.rio_state.proofs.{KeysFollow.{items_in}, Members.{In, in_filter, in_map, in_right, passing}}
 use Rattle.rio_effect.specs.AllItems.{AreAllItems}
 use Rattle.rio_effect.proofs.AllItems.{items_from}
 use Rattle.rio_create.specs.NewFile.{IsNewFile, first_length, first_links, first_segments, nbytes_name_of, new_file}
 use Rattle.rio_create.proofs.Lengths.{key_long}
-use Rattle.rio_recover.specs.{Closable.{IsClosable, is_owned}, Trees.{AreTreesOf, places_of, trees_at}, Whole.{HoldsDirectory}, declared.trees.TreeAt.{TreeAt}}
-use Rattle.rio_session.specs.{Items.{IsOfKeys}, Opening.{BeginsOn, OpensMade}, Session.{HoldsState, SessionState, StandsFor}}
-use Rattle.rio_session.proofs.{ItemsOpened.{items_of, tree_keys_of}, TreesRead.{records_saved}}
+use Rattle.rio_recover.specs.{Closable.{IsClosable, is_owned}, Trees.{AreTreesOf, trees_at}, Whole.{HoldsDirectory}, declared.trees.TreeAt.{TreeAt}}
+use Rattle.rio_step.specs.KeptItems.{AreItemsOfState}
+use Rattle.rio_step.proofs.FillableLaws.{stays_fillable}
+use Rattle.rio_tree_table.specs.declared.table.KeptTree.{KeptTree}
+use Rattle.rio_session.specs.{Due.{IsBranchSound, IsClosableWith}, Fills.{FilledTree, filled_tree_of, kept_tree_of, tree_at_of}, Items.{AreTreeKeys, IsOfKeys}, Opening.{BeginsOn, OpensMade}, Session.{HoldsState, SessionState, StandsFor}, SessionState.{kept_trees}}
+use Rattle.rio_session.proofs.{FillLists.{opened_tree}, ItemsOpened.{items_of, tree_keys_of}, TreesRead.{records_saved}}
 
 -- ---- keys and trees
 
 -- keys and trees that stand for a file's stand for the state as which it reads
-pub stand_for : (s : SessionState) (links : List Link) (m : State) → m.classes ≡ s.classes → AreKeysOf (keyed_records links) s.heads → AreTreesOf (keyed_records links) s.trees → AreRecordsOf (keyed_records links) m → IsOfKeys s m
-stand_for s links m classes keys trees is = record {
-  classes = classes;
-  keys = items_of (keyed_records links) s.heads s.trees m keys trees is;
-  trees = tree_keys_of (keyed_records links) s.heads s.trees m keys trees is;
-}
+pub stand_for : (s : SessionState) (links : List Link) (m : State) (trees : List TreeAt) → m.classes ≡ s.classes → s.trees ≡ map filled_tree_of trees → AreKeysOf (keyed_records links) s.heads
+    → AreTreesOf (keyed_records links) trees → AreRecordsOf (keyed_records links) m → IsOfKeys s m
+stand_for s links m trees classes begun keys are is =
+    let kept : kept_trees s ≡ map opened_tree trees = ap (map kept_tree_of) begun ∙ map-map kept_tree_of filled_tree_of trees in
+    record {
+      classes = classes;
+      keys = subst (λ (x : List KeptTree). AreItemsOfState s.heads x m) (sym kept) (items_of (keyed_records links) s.heads trees m keys are is);
+      trees = subst (λ (x : List KeptTree). AreTreeKeys s.heads x) (sym kept) (tree_keys_of (keyed_records links) s.heads trees m keys are is);
+    }
 
 -- without keys there are no trees
 no_headers : (records : List KeyedRecord) → AreKeysOf records [] → (headers : List KeyedRecord) → tree_records (top_keys records) ≡ headers → headers ≡ []
@@ -81,12 +88,21 @@ kept_empty segments name short low one owned = record {
   room = omega (arith, low, one, short, key_long name short);
 }
 
-pub kept_new : (segments : List Segment) (heads : List KeyHead) (trees : List TreeAt) (name own : List ℕ) → length name ≤ 200 → segments ≡ first_segments name → file_end segments ≤ 700 → heads ≡ [] → trees ≡ [] → own ≡ name
-    → IsClosable segments heads None (places_of trees) own
+-- no saves are due
+closable_new : (segments : List Segment) (name : List ℕ) → IsClosable segments [] None [] name → IsClosableWith segments [] [] None name
+closable_new segments name kept = record {
+  closable = kept;
+  room = kept.room;
+  sound = All-nil (λ (t : FilledTree). All (IsBranchSound t.fill.saved t.fill.pending) t.fill.branches);
+  apart = tt;
+}
+
+pub kept_new : (segments : List Segment) (heads : List KeyHead) (trees : List FilledTree) (name own : List ℕ) → length name ≤ 200 → segments ≡ first_segments name → file_end segments ≤ 700 → heads ≡ [] → trees ≡ [] → own ≡ name
+    → IsClosableWith segments heads trees None own
 kept_new segments heads trees name own short segments_are low none no_tree same =
     let one : record_count segments ≡ 1 = ap record_count segments_are in
     let kept = kept_empty segments name short low one (ap (list_all (is_owned None [] [])) segments_are) in
-    subst (λ (x : List KeyHead × List TreeAt × List ℕ). IsClosable segments x.0 None (places_of x.1) x.2) (λ i. (sym none i, sym no_tree i, sym same i)) kept
+    subst (λ (x : List KeyHead × List FilledTree × List ℕ). IsClosableWith segments x.0 x.1 None x.2) (λ i. (sym none i, sym no_tree i, sym same i)) (closable_new segments name kept)
 
 -- the directory record is within the first record
 pub directory_within : (segments : List Segment) (name : List ℕ) (nbytes_name : ℕ) → segments ≡ first_segments name → nbytes_name ≡ nbytes_name_of name → HoldsDirectory nbytes_name segments
@@ -107,24 +123,33 @@ pub record KeepsNew (s : SessionState) (name : List ℕ) : Type 0 where
   pub opened : s.opened ≡ 0
   pub costs : s.costs ≡ 0
 
+none_in_empty : pending_in empty_state ≡ none_pending
+none_in_empty = λ i name. option_map_or (λ (t : Tree). t.pending) (get-empty name_order name i) []
+
+nothing_pending : (links : List Link) → kept_with (pending_in empty_state) links ≡ kept_in links
+nothing_pending links = ap (λ (p : PendingRows). kept_with p links) none_in_empty
+
 holds_empty : (s : SessionState) (name : List ℕ) (datime : ℕ) (file : List ℕ) → KeepsNew s name → IsNewFile name datime file → HoldsState s empty_state file
 holds_empty s name datime file keeps new =
     let links = new.links in
     let keys = subst (λ (heads : List KeyHead). AreKeysOf (keyed_records links) heads) (sym keeps.heads) new.keys in
-    let trees = subst (λ (trees : List TreeAt). AreTreesOf (keyed_records links) trees) (sym keeps.trees) (no_trees (keyed_records links) new.keys) in
+    let trees = subst (λ (trees : List FilledTree). AreTreesOf (keyed_records links) (map tree_at_of trees)) (sym keeps.trees) (no_trees (keyed_records links) new.keys) in
     record {
       links = links;
       chain = subst (λ (segments : List Segment). HasChain links segments file) (sym keeps.segments) new.chain;
       head = subst (λ (n : ℕ). HasOpenHead file n) (sym keeps.nbytes_name) new.head;
       records = subst (λ (m : State). AreRecordsOf (keyed_records links) m) (sym (records_saved (keyed_records links) empty_state new.records)) new.records;
-      stands = stand_for s links empty_state (sym keeps.classes) keys trees new.records;
+      stands = stand_for s links empty_state [] (sym keeps.classes) keeps.trees keys (no_trees (keyed_records links) new.keys) new.records;
       keys = keys;
       items = items_new links new.keys;
       trees = trees;
+      fillable = stays_fillable.empty;
+      rows = λ tree x there. absurd (let never : None ≡ Some x = sym (get-empty name_order tree) ∙ there in cc);
+      opens = λ tree t x found there. absurd (let never : None ≡ Some x = sym (get-empty name_order tree) ∙ there in cc);
       info = keeps.info ∙ sym (ap (λ (info : Option KeyedRecord). info_head info) new.info);
       name = new.name_is ∙ sym keeps.name_is;
-      count = new.count ∙ sym (ap record_count keeps.segments);
-      held = λ less. omega (arith, new.held);
+      count = ap (λ (k : KeptRecords). k.count) (nothing_pending links) ∙ new.count ∙ sym (ap record_count keeps.segments);
+      held = λ less. omega (arith, new.held, ap (λ (p : PendingRows). held_with p links) none_in_empty);
     }
 
 pub stands_new : (v : View) (s : SessionState) (name : List ℕ) (datime : ℕ) (m : State) (text : List ℕ) → m ≡ empty_state → KeepsNew s name → v.said ≡ Some text

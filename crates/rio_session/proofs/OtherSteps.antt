@@ -1,5 +1,5 @@
 -- Refused commands and those that only print are their steps.
-use Rattle.std.proofs.Common.{◌≡◌, inl, inr, ◌==◌, ◌||◌, ℕ, ◌+◌, ◌-◌, List, [], ◌∷◌, length, sum, Option, Some, None, Result, Ok, Bool, true, false, refl, sym, ap, subst, ◌∙◌}
+use Rattle.std.proofs.Common.{◌≡◌, inl, inr, ◌==◌, ◌||◌, ℕ, ◌+◌, ◌-◌, List, [], ◌∷◌, sum, Option, Some, None, Result, Ok, Bool, true, false, refl, sym, ap, subst, ◌∙◌, arith}
 use Rattle.std.proofs.{lemmas.Bool.{eqb-true, le-ltb}}
 use Rattle.std.specs.{Prelude.{if◌then◌else◌, slice_get}, List.{Contains, list_all, list_any}}
 use Rattle.rio_num.specs.Room.{Room}
@@ -13,17 +13,17 @@ use Rattle.rio_machine.specs.{RefusalText.{refusal_number}, State.{State}, decla
 use Rattle.rio_machine.specs.{declared.command.Outcome.TheVariants.{Accepted, Refused}, declared.refusal.Refusal.{Refusal, TheVariants.{Full}}}
 use Rattle.rio_reply.specs.Told.{item_listing_of}
 use Rattle.rio_reply.proofs.ItemListings.{listing_told}
-use Rattle.rio_state.specs.Closing.{close_need, end_limit, is_full, lay_all}
+use Rattle.rio_state.specs.Closing.{end_limit, is_full, lay_all}
 use Rattle.rio_step.specs.{Costs.{cost_of}, KeptItems.{AreItemsOfState}, Refusing.{FullMark, refusal_of, refusals}, ReplyText.{text_of}}
 use Rattle.rio_step.specs.Step.{Stepped, items_listed, items_of, outcome_of, refused, reply_to, state_behind}
 use Rattle.rio_step.proofs.LowestLaws.{lowest_is_told}
 use Rattle.rio_state.proofs.Members.{In, all_at, contains_in, found, in_contained}
-use Rattle.rio_recover.specs.Closable.{IsClosable, begins_at, is_placed, kept_with, list_count}
-use Rattle.rio_session.specs.{Behind.{IsOfKeys}, Kept.{LinksChange, changes_by, kept_by}}
-use Rattle.rio_session.specs.Marks.{baskets_after, command_lengths, lists_after, mark_of_command, state_need}
+use Rattle.rio_recover.specs.Closable.{begins_at, is_placed, list_count}
+use Rattle.rio_session.specs.{Behind.{IsOfKeys}, Due.{IsClosableWith, need_with}, Kept.{LinksChange, changes_by, kept_by}}
+use Rattle.rio_session.specs.Marks.{command_lengths, lists_after, mark_of_command, state_need, trees_after}
 use Rattle.rio_session.specs.Session.{LacksRoomIfFull, SessionState, next_of}
-use Rattle.rio_session.proofs.{Needs.{need_by_keys}, Refused.{changes_done, changes_refused, cost_accepted, cost_refused, kept_done, kept_refused, refused_anyway, step_accepted, step_refused}, Replies.{IsStill}}
-use Rattle.rio_session.specs.SessionState.{baskets_of, kept_trees}
+use Rattle.rio_session.proofs.{Needs.{baskets_counted, need_by_keys}, Refused.{changes_done, changes_refused, cost_accepted, cost_refused, kept_done, kept_refused, refused_anyway, step_accepted, step_refused}, Replies.{IsStill}}
+use Rattle.rio_session.specs.SessionState.{kept_trees}
 
 -- ---- records by their keys
 
@@ -95,21 +95,21 @@ module _ (s : SessionState) (m : State) (c : Command) (refusal : Refusal) (is : 
 
 -- ---- accepted commands without changes
 
-module _ (s : SessionState) (m : State) (keys : IsOfKeys s m) (kept : IsClosable s.segments s.heads s.info (baskets_of s) s.name)
-    (c : Command) (free : refusal_of m c None ≡ None) (stays : state_behind m c ≡ m) (lengthless : command_lengths m c ≡ []) (lists : lists_after s c ≡ list_count s.info)
-    (baskets : baskets_after s c ≡ length (baskets_of s)) where
-  need_is : state_need s.name (lists_after s c) (baskets_after s c) (state_behind m c) ≡ close_need (kept_with s.name s.heads (record_count s.segments))
+module _ (s : SessionState) (m : State) (keys : IsOfKeys s m) (kept : IsClosableWith s.segments s.heads s.trees s.info s.name)
+    (c : Command) (free : refusal_of m c None ≡ None) (stays : state_behind m c ≡ m) (lengthless : command_lengths s m c ≡ []) (lists : lists_after s c ≡ list_count s.info)
+    (trees : trees_after s m c ≡ s.trees) where
+  need_is : state_need s.name (lists_after s c) (trees_after s m c) (state_behind m c) ≡ need_with s.name s.heads (record_count s.segments) s.trees
   need_is =
-      (λ i. state_need s.name (lists i) (baskets i) (stays i))
-      ∙ need_by_keys s.heads (kept_trees s) m keys.keys keys.trees kept.sized s.name (list_count s.info) (length (baskets_of s))
-      ∙ ap (λ (k : ℕ). close_need (kept_with s.name s.heads k)) (sym kept.count)
+      (λ i. state_need s.name (lists i) (trees i) (stays i))
+      ∙ need_by_keys s.heads (kept_trees s) m keys.keys keys.trees kept.closable.sized s.name (list_count s.info) s.trees
+      ∙ ap (λ (k : ℕ). need_with s.name s.heads k s.trees) (omega (arith, kept.closable.count, baskets_counted s.trees))
 
   abbrev mark_by : List ℕ → ℕ → Option FullMark
   mark_by lengths k = if is_full s.segments lengths k then Some (record { end = file_end s.segments; wanted = sum lengths }) else None
 
-  not_full : is_full s.segments [] (close_need (kept_with s.name s.heads (record_count s.segments))) ≡ false
+  not_full : is_full s.segments [] (need_with s.name s.heads (record_count s.segments) s.trees) ≡ false
   unfolding is_full lay_all
-  not_full = le-ltb end_limit (end_after [] (space_of s.segments) + close_need (kept_with s.name s.heads (record_count s.segments))) kept.room
+  not_full = le-ltb end_limit (end_after [] (space_of s.segments) + need_with s.name s.heads (record_count s.segments) s.trees) kept.room
 
   mark_none : mark_of_command s m c ≡ None
   unfolding mark_of_command
@@ -145,7 +145,7 @@ listing_is heads trees m are =
     let r : Result Room ⊥ = Ok room in
     listing_told heads trees r refl m are
 
-module _ (s : SessionState) (m : State) (keys : IsOfKeys s m) (kept : IsClosable s.segments s.heads s.info (baskets_of s) s.name) (free : refusal_of m Ls None ≡ None) where
+module _ (s : SessionState) (m : State) (keys : IsOfKeys s m) (kept : IsClosableWith s.segments s.heads s.trees s.info s.name) (free : refusal_of m Ls None ≡ None) where
   pub ls_still : IsStill s m Ls 0
   unfolding command_lengths
   ls_still = accepted_still s m keys kept Ls free refl refl refl refl refl refl (cost_accepted m Ls free)

@@ -7,16 +7,17 @@ use Rattle.rio_value.specs.declared.value.Value.{Value}
 use Rattle.rio_chain.specs.{Adjoining.{AreSegments}, Changes.{with_record}, Placing.{IsPlaceFor, place_of}, Segments.{Link, segment_of}}
 use Rattle.rio_model.specs.StateClasses.{StateClasses}
 use Rattle.rio_machine.specs.{State.{State}, declared.command.Command.TheVariants.{Put}}
-use Rattle.rio_state.specs.{Closing.{held_of, kept_in}, DirectoryKeys.{AreKeysOf}, KeyedRecords.{begins_at, info_key, is_top_key, keyed_records, top_keys, tree_records}, Left.{info_head}, OneMore.{HasOneMoreIn, keyed_bytes}, Reads.{AreRecordsOf}, TreeLengths.{none_pending}}
+use Rattle.rio_state.specs.{Closing.{held_with, kept_in, kept_with}, DirectoryKeys.{AreKeysOf}, KeyedRecords.{begins_at, info_key, is_top_key, keyed_records, top_keys, tree_records}, Left.{info_head}, OneMore.{HasOneMoreIn, keyed_bytes}, Reads.{AreRecordsOf}, TreeLengths.{none_pending, pending_in}}
 use Rattle.rio_state.proofs.{Insertion.{filter_more}, Members.{none_from}, MoreRecords.{record_more}, ObjectStands.{trees_same}, Stays.{info_stays}}
 use Rattle.rio_step.specs.{Costs.{cost_of}, Refusing.{refusal_of}, Runs.{saved_of}, Step.{state_behind}}
-use Rattle.rio_effect.specs.{Laws.{IsPutRecord}, More.{KeepsOneMore}, ObjectRecord.{key_of_put, record_of_put}}
+use Rattle.rio_effect.specs.{Laws.{IsPutRecord}, More.{KeepsOneMore}, ObjectRecord.{key_of_put, object_key, record_of_put}}
 use Rattle.rio_effect.proofs.{AllItems.{items_stay_with}, FileChanges.{put_length}, Held.{chain_segments, held_grows}, Needs.{need_grows}, OldLists.{place_apart}, PutEffect.{puts_have_records, saved_put_takes_effect}, PutKeys.{saved_put_key_follows}}
 use Rattle.rio_close.proofs.Fitting.{count_with, place_low}
 use Rattle.rio_recover.specs.Trees.{AreTreesOf}
 use Rattle.rio_session.specs.{Effects.{IsKeptAfter, TakesEffect, links_by}, Kept.{kept_by, place_of_put}}
-use Rattle.rio_session.specs.{Session.{HoldsState, SessionState}, Sound.{IsSoundState}}
-use Rattle.rio_session.proofs.TreesOfFile.{headers_still}
+use Rattle.rio_effect.specs.BasketRuns.{places_put}
+use Rattle.rio_session.specs.{Fills.{put_in}, Session.{HoldsPutRows, HoldsState, SessionState}, SessionState.{headers_of}, Sound.{IsSoundState}}
+use Rattle.rio_session.proofs.{RowsBeside.{hold_with}, RowsStay.{rows_stay, say_alike}, FillableBehind.{fillable_behind}, TreesOfFile.{headers_still}}
 
 module _ (s : SessionState) (m : State) (file : List ℕ) (h : HoldsState s m file) (sound : IsSoundState s) (fresh : s.failed ≡ false) (soon : s.datime < 2 ^ 32)
     (name : List ℕ) (v : Value) (named : is_item_text name ≡ true) (free : refusal_of m (Put name v) None ≡ None) where
@@ -37,7 +38,7 @@ module _ (s : SessionState) (m : State) (file : List ℕ) (h : HoldsState s m fi
 
   -- the place of the rule is before END
   pub put_low : place_of_put s m name v < 2 ^ 32
-  put_low = omega (arith, place_low s.segments at (length (record_of_put m 0 s.datime name v)) shape refl, (sound.kept fresh).room)
+  put_low = omega (arith, place_low s.segments at (length (record_of_put m 0 s.datime name v)) shape refl, (sound.kept fresh).closable.room)
 
   -- the record is as long wherever it is
   pub put_placed : place_of_put s m name v ≡ place_of (map segment_of h.links) (length (record_of_put m (place_of_put s m name v) s.datime name v))
@@ -58,8 +59,11 @@ module _ (s : SessionState) (m : State) (file : List ℕ) (h : HoldsState s m fi
   pr : IsPutRecord m (place_of_put s m name v) s.datime name v
   pr = puts_have_records m at s.datime name v None put_low soon put_classes named free
 
-  grows : KeepsOneMore (kept_in h.links) (kept_in after) key
-  grows = need_grows none_pending file h.links at bytes key h.chain.chain pr.read pr.key.top pr.key.object
+  grows : KeepsOneMore (kept_with (pending_in m) h.links) (kept_with (pending_in m) after) key
+  grows = need_grows (pending_in m) file h.links at bytes key h.chain.chain pr.read pr.key.top pr.key.object
+
+  pub put_named : (kept_in (with_record (place_of_put s m name v) (record_of_put m (place_of_put s m name v) s.datime name v) h.links)).name ≡ (kept_in h.links).name
+  put_named = (need_grows none_pending file h.links at bytes key h.chain.chain pr.read pr.key.top pr.key.object).name
 
   records_after : AreRecordsOf (keyed_records after) (saved_of (state_behind m (Put name v)))
   records_after = saved_put_takes_effect h.links m at s.datime name v None put_low soon put_free h.records named free
@@ -73,22 +77,35 @@ module _ (s : SessionState) (m : State) (file : List ℕ) (h : HoldsState s m fi
   pub put_info : info_key (keyed_records (with_record (place_of_put s m name v) (record_of_put m (place_of_put s m name v) s.datime name v) h.links)) ≡ info_key (keyed_records h.links)
   put_info = info_stays (keyed_records h.links) (keyed_records after) (keyed_bytes key bytes) more pr.key.other
 
-  pub put_trees : AreTreesOf (keyed_records (with_record (place_of_put s m name v) (record_of_put m (place_of_put s m name v) s.datime name v) h.links)) s.trees
-  put_trees =
+  put_headers : tree_records (top_keys (keyed_records after)) ≡ tree_records (top_keys (keyed_records h.links))
+  put_headers =
       let tops = filter_more (λ r. is_top_key r.head) (keyed_bytes key bytes) (keyed_records h.links) (keyed_records after) more pr.key.top in
-      let headers : tree_records (top_keys (keyed_records after)) ≡ tree_records (top_keys (keyed_records h.links)) = trees_same (top_keys (keyed_records h.links)) (top_keys (keyed_records after)) (keyed_bytes key bytes) tops pr.key.object in
-      headers_still (keyed_records h.links) (keyed_records after) s.trees put_info headers h.trees
+      trees_same (top_keys (keyed_records h.links)) (top_keys (keyed_records after)) (keyed_bytes key bytes) tops pr.key.object
 
-  held_after : held_of after ≤ held_of h.links + cost_of m (Put name v)
-  held_after = held_grows none_pending file h.links m at s.datime name v put_low soon h.chain.chain placed put_classes named free
+  -- the new record stands where no basket does
+  put_rows : HoldsPutRows (kept_by s m (Put name v)) (state_behind m (Put name v)) after
+  unfolding object_key
+  put_rows =
+      rows_stay s (kept_by s m (Put name v)) m (state_behind m (Put name v)) h.links after (say_alike h.links after put_info put_headers) refl refl (λ own x there. refl)
+      (λ own. hold_with (keyed_records h.links) (keyed_records after) (keyed_bytes key bytes) more (put_free) (places_put (put_in s.trees own))) h.rows
 
-  put_is_kept : IsKeptAfter s m (Put name v) h.links after
+  pub put_trees : AreTreesOf (keyed_records (with_record (place_of_put s m name v) (record_of_put m (place_of_put s m name v) s.datime name v) h.links)) (headers_of s)
+  put_trees = headers_still (keyed_records h.links) (keyed_records after) (headers_of s) put_info put_headers h.trees
+
+  held_after : held_with (pending_in m) after ≤ held_with (pending_in m) h.links + cost_of m (Put name v)
+  held_after = held_grows (pending_in m) file h.links m at s.datime name v put_low soon h.chain.chain placed put_classes named free
+
+  pub put_is_kept : IsKeptAfter s m (Put name v) h.links (with_record (place_of_put s m name v) (record_of_put m (place_of_put s m name v) s.datime name v) h.links)
   put_is_kept = record {
     keys = keys_after;
+    records = records_after;
     trees = put_trees;
     items = items_stay_with h.links at bytes key pr.read (inl (λ i. pr.key.top i && pr.key.object i)) h.items;
+    fillable = fillable_behind m (Put name v) named free h.fillable;
+    rows = put_rows;
+    opens = h.opens;
     info = h.info ∙ ap info_head (sym put_info);
-    name = grows.name;
+    name = put_named;
     count = grows.count ∙ ap (λ (n : ℕ). n + 1) h.count ∙ sym (count_with at (length bytes) s.segments);
     held = held_after;
   }

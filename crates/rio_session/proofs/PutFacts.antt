@@ -12,14 +12,14 @@ use Rattle.rio_chain.specs.{Changes.{with_record}, Placing.{file_end, place_of, 
 use Rattle.rio_machine.specs.{Limits.{head_length}, State.{State, next_cycle}, declared.command.Command.TheVariants.{Put}}
 use Rattle.rio_chain.specs.{Record.{new_key, record_bytes}, declared.record.NewRecord.{NewRecord}, declared.key_words.KeyWords.{KeyWords}}
 use Rattle.rio_chain.proofs.Records.{key_long}
-use Rattle.rio_state.specs.Closing.{close_need, end_limit, padded_length}
+use Rattle.rio_state.specs.Closing.{end_limit, padded_length}
 use Rattle.rio_step.specs.{Costs.{cost_of}, Refusing.{object_class, put_value, refusal_of}, ReplyText.{text_of}, Step.{object_put}}
 use Rattle.rio_effect.specs.ObjectRecord.{key_of_put, object_data, object_key, object_record, object_words, record_of_put}
 use Rattle.rio_effect.proofs.FileChanges.{put_length}
 use Rattle.rio_judge.specs.{Judging.{IsStep}, declared.work.StoredObject.{StoredObject}}
-use Rattle.rio_recover.specs.Closable.{is_fit_key, is_sized, kept_with}
+use Rattle.rio_recover.specs.Closable.{is_fit_key, is_sized}
 use Rattle.rio_session.proofs.Refused.{cost_accepted}
-use Rattle.rio_session.specs.{Kept.{LinksChange, changes_by, kept_by, place_of_put}, Puts.{CanBePut, IsStoredRecord, putting, stored_words}, Session.{SessionState}}
+use Rattle.rio_session.specs.{Due.{need_with}, Kept.{LinksChange, changes_by, kept_by, place_of_put}, Puts.{CanBePut, IsStoredRecord, putting, stored_words}, Session.{SessionState}}
 
 module _ (s : SessionState) (place : ℕ) (o : StoredObject) (made : NewRecord) (r : IsStoredRecord s place o made) where
   abbrev words : KeyWords
@@ -47,7 +47,7 @@ module _ (s : SessionState) (place : ℕ) (o : StoredObject) (made : NewRecord) 
       and_from _ _ (and_from _ _ (and_from _ _ (and_from _ _ (lt-ltb place (2 ^ 32) low) refl) (le-leb (length o.class) 65535 class)) (le-leb (length o.name) 65535 named)) refl
 
   pub can_be_put : (need : ℕ) → place < 2 ^ 32 → head_length o.class o.name ≤ 229 → place ≡ place_of s.segments (padded_length (head_length o.class o.name + o.length)) → head_of o.name (Some o.cycle) s.heads ≡ None
-      → need ≡ close_need (kept_with s.name (with_head made.head s.heads) (record_count s.segments + 1))
+      → need ≡ need_with s.name (with_head made.head s.heads) (record_count s.segments + 1) s.trees
       → file_end (with_segment (place_of s.segments (padded_length (head_length o.class o.name + o.length))) (padded_length (head_length o.class o.name + o.length)) s.segments) + need ≤ end_limit → CanBePut s made
   can_be_put need low short at new is room = record {
     whole = subst (λ (k : ℕ). IsRecord k made.bytes.bytes) (sym seek_is) r.whole;

@@ -11,16 +11,16 @@ use Rattle.rio_chain.proofs.Records.{key_long}
 use Rattle.rio_model.specs.StateClasses.{StateClasses}
 use Rattle.rio_machine.specs.{Limits.{head_length}, State.{State}, declared.command.Command.TheVariants.{Put}}
 use Rattle.rio_machine.specs.{declared.command.Outcome.TheVariants.{Refused}, declared.refusal.Refusal.{TheVariants.{Full}}}
-use Rattle.rio_state.specs.Closing.{close_need, free_length, held_of, is_full, list_length, padded_length}
+use Rattle.rio_state.specs.{Closing.{KeptRecords, free_length, held_with, is_full, list_length, padded_length}, Sizes.{close_size}, TreeLengths.{pending_in}}
 use Rattle.rio_step.specs.{KeptItems.{AreItemsOfState}, Refusing.{FullMark, object_class, put_value, refusal_of}}
 use Rattle.rio_step.specs.{Costs.{cost_of, room_limit, value_size}, ReplyText.{text_of}}
 use Rattle.rio_step.specs.Step.{Stepped, object_put, outcome_of, refused, state_behind}
 use Rattle.rio_effect.specs.ObjectRecord.{data_of_put, key_of_put, object_key, words_of_put}
 use Rattle.rio_judge.specs.{Judging.{IsStep}, declared.work.StoredObject.{StoredObject}}
-use Rattle.rio_recover.specs.Closable.{is_sized, kept_with, list_count}
-use Rattle.rio_session.specs.{Behind.{IsOfKeys}, Effects.{IsChangeOf}, Kept.{place_of_put}, Marks.{command_lengths, mark_of_command, state_need}}
+use Rattle.rio_recover.specs.Closable.{is_sized, list_count}
+use Rattle.rio_session.specs.{Behind.{IsOfKeys}, Due.{IsClosableWith, due_of, kept_records, need_with}, Effects.{IsChangeOf}, Kept.{place_of_put}, Marks.{basket_total, command_lengths, mark_of_command, state_need}}
 use Rattle.rio_session.specs.{Items.{AreTreeKeys}, Puts.{IsStoredRecord, putting}, Session.{HoldsState, SessionState, next_of}, SessionState.{baskets_of, kept_trees}}
-use Rattle.rio_session.proofs.{Keeps.{all_with, length_with, size_with}, Lacking.{held_most, lacking, sum_two}, Needs.{need_by_keys}, Places.{end_most, full_is, sum_one}}
+use Rattle.rio_session.proofs.{Keeps.{all_with, length_with, size_with}, FilledFiles.{filled_now, held_most}, FillSums.{due_baskets, need_by_due}, Lacking.{lacking}, Needs.{baskets_counted, need_by_keys}, Places.{end_most, full_is, sum_one}}
 use Rattle.rio_session.proofs.{PutFacts.{changes_are, cost_is, kept_is, place_is, text_is}, Refused.{changes_refused, kept_refused, refused_full, step_refused}}
 use Rattle.rio_session.proofs.{PutKeys.{put_stands, put_tree_keys}, Replies.{IsStill}, States.{of_keys}}
 
@@ -64,15 +64,15 @@ module _ (s : SessionState) (m : State) (keys : IsOfKeys s m) (sound : StateClas
   tree_keys = put_tree_keys s m keys o.name v free place classes
 
   abbrev need : ℕ
-  need = close_need (kept_with s.name (with_head key s.heads) (record_count s.segments + 1))
+  need = need_with s.name (with_head key s.heads) (record_count s.segments + 1) s.trees
 
-  need_is : state_need s.name (list_count s.info) (length (baskets_of s)) (state_behind m (Put o.name v)) ≡ need
+  need_is : state_need s.name (list_count s.info) s.trees (state_behind m (Put o.name v)) ≡ need
   need_is =
-      let more : 1 + list_count s.info + length (with_head key s.heads) + length (baskets_of s) ≡ record_count s.segments + 1 = omega (arith, length_with key s.heads, count) in
-      need_by_keys (with_head key s.heads) (kept_trees s) (state_behind m (Put o.name v)) stand_after tree_keys (all_with is_sized key s.heads key_sized sized) s.name (list_count s.info) (length (baskets_of s))
-      ∙ ap (λ (k : ℕ). close_need (kept_with s.name (with_head key s.heads) k)) more
+      let more : 1 + list_count s.info + length (with_head key s.heads) + basket_total s.trees ≡ record_count s.segments + 1 = omega (arith, length_with key s.heads, count, baskets_counted s.trees) in
+      need_by_keys (with_head key s.heads) (kept_trees s) (state_behind m (Put o.name v)) stand_after tree_keys (all_with is_sized key s.heads key_sized sized) s.name (list_count s.info) s.trees
+      ∙ ap (λ (k : ℕ). need_with s.name (with_head key s.heads) k s.trees) more
 
-  pub lengths_are : command_lengths m (Put o.name v) ≡ n ∷ []
+  pub lengths_are : command_lengths s m (Put o.name v) ≡ n ∷ []
   unfolding command_lengths
   lengths_are = λ i. padded_length (head_length (own_is i) o.name + size_is i) ∷ []
 
@@ -140,7 +140,7 @@ module _ (s : SessionState) (m : State) (keys : IsOfKeys s m) (sound : StateClas
 
 -- ---- on a file
 
-module _ (s : SessionState) (m : State) (file : List ℕ) (h : HoldsState s m file) (sound : StateClasses s.classes) (count : record_count s.segments ≡ 1 + list_count s.info + length s.heads + length (baskets_of s)) (sized : list_all is_sized s.heads ≡ true)
+module _ (s : SessionState) (m : State) (file : List ℕ) (h : HoldsState s m file) (sound : StateClasses s.classes) (kept : IsClosableWith s.segments s.heads s.trees s.info s.name)
     (v : Value) (o : StoredObject) (place : ℕ) (low : place < 2 ^ 32) (soon : s.datime < 2 ^ 32) (named : is_item_text o.name ≡ true)
     (free : refusal_of m (Put o.name v) None ≡ None) (step : IsStep m v o) (new : head_of o.name (Some o.cycle) s.heads ≡ None) where
   abbrev its_key : KeyHead
@@ -150,19 +150,24 @@ module _ (s : SessionState) (m : State) (file : List ℕ) (h : HoldsState s m fi
   size_of = padded_length (head_length o.class o.name + o.length)
 
   abbrev its_need : ℕ
-  its_need = close_need (kept_with s.name (with_head its_key s.heads) (record_count s.segments + 1))
+  its_need = need_with s.name (with_head its_key s.heads) (record_count s.segments + 1) s.trees
+
+  abbrev mine : KeptRecords
+  mine = kept_records s.name s.heads (record_count s.segments) s.trees
 
   abbrev of : IsOfKeys s m
   of = of_keys s m file h
 
   -- what is held where there is no room
   module _ (full : is_full s.segments (size_of ∷ []) its_need ≡ true) where
-    need_most : its_need ≤ list_length (kept_with s.name s.heads (record_count s.segments)) + head_length o.class o.name + 3 + (free_length (kept_with s.name s.heads (record_count s.segments)) + 13)
-    unfolding close_need
+    need_most : its_need ≤ (due_of s.trees).bytes + (list_length mine + head_length o.class o.name + 3 + (free_length mine + 13))
+    unfolding close_size
     need_most =
-        let long : length (written_key its_key) ≡ head_length o.class o.name = eqb-true (length (written_key its_key)) (head_length its_key.class its_key.name) (key_sized s m of sound count sized v o place low soon named free step new) ∙ ap (λ (x : List ℕ × List ℕ). head_length x.0 x.1) (λ i. (key_class s m of sound count sized v o place low soon named free step new i, key_name s m of sound count sized v o place low soon named free step new i)) in
-        omega (arith, sum_two padded_length (list_length (kept_with s.name (with_head its_key s.heads) (record_count s.segments + 1))) (free_length (kept_with s.name (with_head its_key s.heads) (record_count s.segments + 1))), size_with its_key s.heads, long)
+        let long : length (written_key its_key) ≡ head_length o.class o.name = eqb-true (length (written_key its_key)) (head_length its_key.class its_key.name)
+        (key_sized s m of sound kept.closable.count kept.closable.sized v o place low soon named free step new)
+        ∙ ap (λ (x : List ℕ × List ℕ). head_length x.0 x.1) (λ i. (key_class s m of sound kept.closable.count kept.closable.sized v o place low soon named free step new i, key_name s m of sound kept.closable.count kept.closable.sized v o place low soon named free step new i)) in
+        omega (arith, need_by_due s.name (with_head its_key s.heads) (record_count s.segments + 1) s.trees, size_with its_key s.heads, long, due_baskets s.trees)
 
     pub full_lacks : (cost : ℕ) → cost ≡ 500 + o.length → head_length o.class o.name ≤ 229 → room_limit < 3 * s.opened + min (s.costs + cost) (2 ^ 64 - 1)
-    full_lacks cost is short = lacking (3 * s.opened) s.costs cost (held_of h.links) h.held
-        (omega (arith, held_most s m file h count, need_most, full_is s.segments size_of its_need full, end_most size_of s.segments, short, is))
+    full_lacks cost is short = lacking (3 * s.opened) s.costs cost (held_with (pending_in m) h.links) h.held
+        (omega (arith, held_most s m h.links (filled_now s m file h kept) (sym h.chain.same), need_most, full_is s.segments size_of its_need full, end_most size_of s.segments, short, is))

@@ -6,7 +6,7 @@ use Rattle.rio_host.proofs.{Images.{becomes_some}, Moments.{elapses_as, elapses_
 use Rattle.rio_chain.specs.{Chains.{HasChain}, Segments.{Link}, declared.segment.Segment.{Segment}}
 use Rattle.rio_machine.specs.{State.{State}, declared.command.Command.{Command}}
 use Rattle.rio_machine.specs.declared.command.Outcome.{Outcome, TheVariants.{Accepted, Refused}}
-use Rattle.rio_state.specs.Closing.{held_of}
+use Rattle.rio_state.specs.{Closing.{held_with}, TreeLengths.{pending_in}}
 use Rattle.rio_step.specs.{Costs.{cost_of}, ReplyText.{text_of}, Step.{Stepped, outcome_of}}
 use Rattle.rio_session.specs.{Behind.{FollowsStep, HasChanged, IsOfKeys, IsToldByKeys}, Causes.{IsSaid, StaysIfRefused}, Does.{Does}}
 use Rattle.rio_session.specs.{Kept.{LinksChange, all_done, changes_after, changes_by, kept_after, kept_by}, Says.{NotSaid, Said, SaysReply}}
@@ -65,10 +65,13 @@ counted_state s cost m file h = record {
   keys = h.keys;
   trees = h.trees;
   items = h.items;
+  fillable = h.fillable;
+  rows = h.rows;
+  opens = h.opens;
   info = h.info;
   name = h.name;
   count = h.count;
-  held = held_costs (held_of h.links) (3 * s.opened) s.costs cost h.held;
+  held = held_costs (held_with (pending_in m) h.links) (3 * s.opened) s.costs cost h.held;
 }
 
 module _ (old new : View) (before after : SessionState) (text : List ℕ) (cost : ℕ) (lawful : IsLawful old) (lawful' : IsLawful new) (ready : IsReady old before) where

@@ -1,19 +1,19 @@
 -- The trees of a file without the header of one, and without records that nothing refers to.
-use Rattle.std.proofs.Common.{◌≡◌, ◌≢◌, ◌∙◌, inl, inr, ℕ, zero, suc, ◌<◌, ◌≤◌, ◌==◌, Bool, true, false, cond, not, ◌&&◌, ◌||◌, List, [], ◌∷◌, ◌++◌, length, take, Option, Some, None, refl, sym, ap, subst, arith}
+use Rattle.std.proofs.Common.{◌≡◌, ◌∙◌, inl, inr, ℕ, zero, suc, ◌≤◌, ◌==◌, Bool, true, false, cond, not, ◌&&◌, ◌||◌, List, [], ◌∷◌, ◌++◌, length, take, Option, Some, None, refl, sym, ap, subst, arith}
 use Rattle.std.proofs.lemmas.{Bool.{and_parts, eq-eqb, or_parts}, List.Sorted.{Contains-permutation}, Slice.Eq.{bytes_eq-Decides}}
-use Rattle.std.specs.{List.{Contains, cons_option, filter, filter_map, find, list_any, Sorted.{IsPermutation}}, Option.{option_map, option_map_or}, Set.{remove_key}, Str.{bytes_eq}}
+use Rattle.std.specs.{List.{cons_option, filter, find, list_any, Sorted.{IsPermutation}}, Option.{option_map, option_map_or}, Set.{remove_key}, Str.{bytes_eq}}
 use Rattle.rio_chain.specs.{Changes.{without_record}, Segments.{IsChain, Link}}
 use Rattle.rio_machine.specs.State.{State}
 use Rattle.rio_tree.specs.declared.head.TreeHead.{TreeHead}
 use Rattle.rio_state.specs.{Contents.{FileClasses, file_classes}, KeyedRecords.{KeyedRecord, begins_at, first_place, info_key, is_tree_key, is_tree_record, keyed_records, top_keys, tree_records}}
 use Rattle.rio_state.specs.{OneLess.{HasRecord, links_without}, OneMore.{HasOneMoreIn}, Reads.{AreRecordsOf, info_place}, Referred.{is_item_record, is_named_basket}, Trees.{basket_places, header_in, places_named, trees_beside}}
-use Rattle.rio_state.proofs.{KeysFollow.{in_new}, LessRecords.{record_less}, Members.{In, any_from, contains_in, filter_in, in_contained, none_at, none_from}, Places.{AreDistinct, basket_there, once_distinct}, Unreferred.{garbage_goes, part_without}}
+use Rattle.rio_state.proofs.{KeysFollow.{in_new}, LessRecords.{record_less}, Members.{In, any_from, contains_in, filter_in, in_contained, none_at, none_from}, Places.{AreDistinct, basket_there, once_distinct}, Unreferred.{part_without}}
 use Rattle.rio_effect.specs.{Changes.{all_changed}, Garbage.{AreGarbage, ArePassed, IsGarbageAt, releases}, TreeDeletes.{HasHeader}}
 use Rattle.rio_effect.proofs.{Garbage.{garbage_is_released}, HeaderLess.{headers_less, info}, TreeDeletes.{holds, last}}
-use Rattle.rio_recover.specs.{TreeTable.{AreAfter, AreInOrder, has_name, is_name_before, without_tree}, Trees.{AreTreesOf, tree_at, trees_at}}
+use Rattle.rio_recover.specs.{TreeTable.{AreAfter, AreInOrder, has_name, is_name_before, without_tree}, Trees.{AreTreesOf, trees_at}}
 use Rattle.rio_recover.specs.declared.trees.TreeAt.{TreeAt}
 use Rattle.rio_recover.proofs.{TreeOrder.{before_other, behind_other}, TreesTaken.{ordered_without}}
-use Rattle.rio_session.proofs.{Permuted.{filter_moved}, TreesOfFile.{headers_still}}
+use Rattle.rio_session.proofs.{Permuted.{filter_moved}}
 
 -- ---- trees in order
 
@@ -100,7 +100,7 @@ module _ (classes : FileClasses) where
           ∙ ap (λ (l : List TreeAt). t ∷ l) rest
 
   -- a header that is read has its tree
-  tree_among : (r : KeyedRecord) (head : TreeHead) (headers : List KeyedRecord) → header_in classes r ≡ Some head → In r headers → In (record { name = r.head.name; head = head }) (trees_at classes headers)
+  pub tree_among : (r : KeyedRecord) (head : TreeHead) (headers : List KeyedRecord) → header_in classes r ≡ Some head → In r headers → In (record { name = r.head.name; head = head }) (trees_at classes headers)
   tree_among r head [] read i = absurd i
   tree_among r head (s ∷ ss) read (inl same) =
       let is = ap (λ (k : KeyedRecord). header_in classes k) same ∙ read in

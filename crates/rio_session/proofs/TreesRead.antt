@@ -120,6 +120,7 @@ module _ (records : List KeyedRecord) (m : State) (is : AreRecordsOf records m) 
   -- and each tree has one
   pub record HeaderOf (name : List ℕ) (t : Tree) : Type 0 where
     pub r : KeyedRecord
+    pub found : find (λ s. bytes_eq s.head.name name) headers_of ≡ Some r
     pub among : In r headers_of
     pub named : r.head.name ≡ name
     pub tree : IsTreeOf records r t
@@ -131,7 +132,7 @@ module _ (records : List KeyedRecord) (m : State) (is : AreRecordsOf records m) 
       by None there e = absurd cc
       by (Some r) there e =
           let f = found (λ s. bytes_eq s.head.name name) r headers_of there in
-          record { r = r; among = f.among; named = (bytes_eq-Decides r.head.name name).0 f.passes; tree = tree_by_header r t f.among e }
+          record { r = r; found = there; among = f.among; named = (bytes_eq-Decides r.head.name name).0 f.passes; tree = tree_by_header r t f.among e }
 
   -- ---- no rows are pending
 

@@ -10,10 +10,11 @@ pub use Rattle.rio_session.specs.Items.{IsOfKeys}
 
 -- ---- states
 
--- Classes and keys tell what becomes of the command. They don't tell whether an object can be had in the version that a get asks for: it
--- stands in the file.
+-- Classes and keys tell what becomes of the command. They don't tell whether an object, or the rows of a tree, can be had in the
+-- version that is asked for: they stand in the file.
 abbrev pub IsToldByKeys : Command → Type 0
 IsToldByKeys (Get name cycle (Some version)) = ⊥
+IsToldByKeys (Scan name (Some class)) = ⊥
 IsToldByKeys other = Unit {0}
 
 -- What becomes of the command is what the state's step says, as far as classes and keys tell, and what the session keeps follows it.

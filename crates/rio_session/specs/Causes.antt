@@ -1,7 +1,7 @@
 -- Why a call of a session failed, and what it leaves then.
 use Rattle.std.specs.Prelude.{◌≡◌, Bool, true, false, Result, Ok, Err}
 use Rattle.rio_host.specs.Host.{Rose, Unwritten, View}
-use Rattle.rio_machine.specs.{declared.command.Command.{Command, TheVariants.{Get}}, declared.command.Outcome.{Outcome, TheVariants.{Accepted, Refused}}}
+use Rattle.rio_machine.specs.{declared.command.Command.{Command, TheVariants.{Get, Scan}}, declared.command.Outcome.{Outcome, TheVariants.{Accepted, Refused}}}
 use Rattle.rio_session.specs.declared.fault.SessionFault.{SessionFault, TheVariants.{HostFault, SayFault, NoMemory}}
 
 -- ---- counts
@@ -63,4 +63,5 @@ StaysIfRefused old new (Refused refusal) = (new.holds ≡ old.holds) × Unwritte
 -- commands that don't read the file again
 abbrev pub NeverReads : Command → Type 0
 NeverReads (Get name cycle version) = ⊥
+NeverReads (Scan name class) = ⊥
 NeverReads other = Unit {0}

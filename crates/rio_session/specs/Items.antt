@@ -13,7 +13,7 @@ abbrev pub AreTreeKeys : List KeyHead → List KeptTree → Type 0
 AreTreeKeys [] trees = Unit {0}
 AreTreeKeys (h ∷ heads) trees = (items.is_tree_key trees h ≡ is_tree_key h) × AreTreeKeys heads trees
 
--- a state that has the kept classes, and for whose objects and trees the kept keys and trees stand; it has no pending rows
+-- a state that has the kept classes, and for whose objects and trees the kept keys and trees stand
 pub record IsOfKeys (s : SessionState) (m : State) : Type 0 where
   pub classes : m.classes ≡ s.classes
   pub keys : AreItemsOfState s.heads (kept_trees s) m

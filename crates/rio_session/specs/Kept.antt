@@ -9,16 +9,12 @@ use Rattle.rio_chain.specs.declared.segment.Segment.{Segment, TheVariants.{Recor
 use Rattle.rio_machine.specs.State.{State}
 use Rattle.rio_machine.specs.declared.command.Command.{Command, TheVariants.{Bad, Class, Put, Delete, Tree, Fill, Save, Get, Scan, Ls}}
 use Rattle.rio_step.specs.Refusing.{with_class}
-use Rattle.rio_state.specs.Trees.{basket_places}
 use Rattle.rio_effect.specs.{ClassRecord.{key_of_class, record_of_class}, ObjectRecord.{key_of_put, record_of_put}}
-use Rattle.rio_recover.specs.{Cleaning.{without_segments}, TreeTable.{has_name, without_tree}, declared.trees.TreeAt.{TreeAt}}
-use Rattle.rio_session.specs.{Marks.{is_refused}, SessionState.{SessionState}}
+use Rattle.rio_recover.specs.Cleaning.{without_segments}
+pub use Rattle.rio_session.specs.{Due.{key_place}, Fillings.{LinksChange}}
+use Rattle.rio_session.specs.{Fillings.{filling, making, saving}, Fills.{is_tree_of, places_of_fill, without_filled}, Marks.{is_refused}, SessionState.{SessionState}}
 
 -- ---- records
-
--- what one change, the put or the release of a record, makes of the links of a file
-abbrev pub LinksChange : Type 0
-LinksChange = List Link → List Link
 
 -- the links after all changes, one after the other
 abbrev pub all_done : List LinksChange → List Link → List Link
@@ -55,39 +51,15 @@ record_places (Gap p n ∷ segments) = record_places segments
 abbrev pub places_among : List ℕ → List Segment → List ℕ
 places_among places segments = filter (λ p. list_any (λ q. q == p) places) (record_places segments)
 
--- where the record of this key stands, if there is one
-abbrev pub key_place : Option KeyHead → List ℕ
-key_place None = []
-key_place (Some h) = h.seek ∷ []
-
--- where the baskets stand that the header of the tree of a name names, in order
+-- where the baskets of the tree of a name stand that were written, in order
 abbrev pub tree_places : SessionState → List ℕ → List ℕ
-tree_places s name = option_map_or (λ t. places_among (basket_places t.head) s.segments) (find (has_name name) s.trees) []
+tree_places s name = option_map_or (λ t. places_among (places_of_fill t.fill) s.segments) (find (is_tree_of name) s.trees) []
 
 -- the records that a delete releases, one after the other: the one of the key, and the baskets of a tree
 abbrev pub released_by : SessionState → List ℕ → ℕ → List ℕ
 released_by s name cycle = key_place (head_of name (Some cycle) s.heads) ++ tree_places s name
 
 -- ---- by a command that isn't refused
-
--- No law can look into these: what they say of commands whose records aren't told here means nothing.
-pub untold_changes : List LinksChange
-untold_changes = []
-
-pub untold_segments : List Segment → List Segment
-untold_segments segments = segments
-
-pub untold_heads : List KeyHead → List KeyHead
-untold_heads heads = heads
-
-pub untold_trees : List TreeAt → List TreeAt
-untold_trees trees = trees
-
-pub untold_list : Option KeyHead → Option KeyHead
-untold_list info = info
-
-abbrev pub untold_state : SessionState → SessionState
-untold_state s = record s { segments = untold_segments s.segments; heads = untold_heads s.heads; trees = untold_trees s.trees; info = untold_list s.info }
 
 -- the changes of the file's records, one after the other
 abbrev pub changes_by : SessionState → State → Command → List LinksChange
@@ -98,9 +70,9 @@ changes_by s m (Bad line place) = []
 changes_by s m (Get name cycle version) = []
 changes_by s m (Scan name class) = []
 changes_by s m Ls = []
-changes_by s m (Tree name branches) = untold_changes
-changes_by s m (Fill name row) = untold_changes
-changes_by s m (Save name) = untold_changes
+changes_by s m (Tree name branches) = (making s m name branches).changes
+changes_by s m (Fill name row) = (filling s m name row).changes
+changes_by s m (Save name) = (saving s name).changes
 
 -- what the session keeps then, but for its costs
 abbrev pub kept_by : SessionState → State → Command → SessionState
@@ -111,7 +83,7 @@ kept_by s m (Put name v) = let place = place_of_put s m name v in record s {
 kept_by s m (Delete name cycle) = record s {
   segments = without_segments (released_by s name cycle) s.segments;
   heads = without_head name cycle s.heads;
-  trees = without_tree name s.trees;
+  trees = without_filled name s.trees;
 }
 kept_by s m (Class class) = let place = place_of_class s m class in record s {
   segments = released_segment s.info (with_segment place (length (record_of_class s.info m place s.datime class)) s.segments);
@@ -122,9 +94,9 @@ kept_by s m (Bad line place) = s
 kept_by s m (Get name cycle version) = s
 kept_by s m (Scan name class) = s
 kept_by s m Ls = s
-kept_by s m (Tree name branches) = untold_state s
-kept_by s m (Fill name row) = untold_state s
-kept_by s m (Save name) = untold_state s
+kept_by s m (Tree name branches) = (making s m name branches).kept
+kept_by s m (Fill name row) = (filling s m name row).kept
+kept_by s m (Save name) = (saving s name).kept
 
 -- ---- by any command: a refused one changes nothing
 

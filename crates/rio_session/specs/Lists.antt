@@ -5,11 +5,10 @@ use Rattle.rio_format.specs.WrittenBytes.{length_limit, written_list}
 use Rattle.rio_model.specs.{Declaring.{declare_fault, declared}, StateClasses.{StateClasses}}
 use Rattle.rio_chain.specs.{Changes.{with_record}, Placing.{file_end, place_of, with_segment}, Segments.{IsRecord}, declared.record.NewRecord.{NewRecord}}
 use Rattle.rio_judge.specs.declared.work.NewClass.{NewClass}
-use Rattle.rio_state.specs.Closing.{close_need, end_limit, padded_length}
+use Rattle.rio_state.specs.Closing.{end_limit, padded_length}
 use Rattle.rio_step.specs.Costs.{info_size}
 use Rattle.rio_effect.specs.ClassRecord.{list_key, list_key_size, list_record, next_list_cycle}
-use Rattle.rio_recover.specs.Closable.{kept_with}
-use Rattle.rio_session.specs.{Changing.{Changing}, Kept.{released_link, released_segment}, SessionState.{SessionState, baskets_of}}
+use Rattle.rio_session.specs.{Changing.{Changing}, Due.{need_with}, Kept.{released_link, released_segment}, SessionState.{SessionState, baskets_of}}
 
 -- ---- a class that is declared
 
@@ -34,7 +33,7 @@ pub record CanBeListedAt (s : SessionState) (place : ℕ) : Type 0 where
   pub short : (start : ℕ) → length (written_list start s.classes) ≤ length_limit
   pub cycle : next_list_cycle s.info ≤ length s.classes + 1
   pub room : file_end (with_segment place (padded_length (list_key_size + info_size s.classes)) s.segments)
-      + close_need (kept_with s.name s.heads (2 + length s.heads + length (baskets_of s))) ≤ end_limit
+      + need_with s.name s.heads (2 + length s.heads + length (baskets_of s)) s.trees ≤ end_limit
 
 -- the record of the list of all classes, for this place
 pub record IsListRecord (s : SessionState) (place : ℕ) (made : NewRecord) : Type 0 where
@@ -51,7 +50,7 @@ pub record CanReplace (s : SessionState) (made : NewRecord) : Type 0 where
   pub spare : 4 ≤ made.bytes.spare
   pub cycle : made.head.cycle ≤ length s.classes + 1
   pub room : file_end (with_segment made.head.seek (length made.bytes.bytes) s.segments)
-      + close_need (kept_with s.name s.heads (2 + length s.heads + length (baskets_of s))) ≤ end_limit
+      + need_with s.name s.heads (2 + length s.heads + length (baskets_of s)) s.trees ≤ end_limit
 
 -- the put of the record, the release of the one before, and what is printed then
 abbrev pub listing : SessionState → NewRecord → List ℕ → ℕ → Changing

@@ -1,17 +1,21 @@
 -- Which commands find no room.
-use Rattle.std.specs.{Prelude.{ℕ, ◌+◌, List, [], ◌∷◌, ◌++◌, codes, length, map, sum, Bool, Option, Some, None, is_some, if◌then◌else◌}, FinMap.{entries}}
+use Rattle.std.specs.{Prelude.{ℕ, ◌+◌, List, [], ◌∷◌, ◌++◌, codes, length, map, sum, Bool, Option, Some, None, is_some, if◌then◌else◌}, FinMap.{entries}, List.{sum_by}}
 use Rattle.rio_key.specs.declared.head.KeyHead.{KeyHead}
 use Rattle.rio_value.specs.declared.value.Value.{Value}
 use Rattle.rio_chain.specs.{Placing.{file_end}, Record.{new_key}}
 use Rattle.rio_machine.specs.{Limits.{head_length}, State.{NameAndCycle, State, Tree as TreeOf}}
 use Rattle.rio_machine.specs.declared.command.Command.{Command, TheVariants.{Bad, Class, Put, Delete, Tree, Fill, Save, Get, Scan, Ls}}
 use Rattle.rio_step.specs.{Costs.{info_size, value_size}, Refusing.{FullMark, object_class_name, put_value, refusal_of, with_class}, Step.{state_behind}}
-use Rattle.rio_recover.specs.{Closable.{list_count}, TreeTable.{without_tree}, Trees.{places_of}, declared.trees.TreeAt.{TreeAt}}
+use Rattle.rio_recover.specs.Closable.{list_count}
 use Rattle.rio_state.specs.Closing.{KeptRecords, close_need, is_full, padded_length}
 use Rattle.rio_effect.specs.ClassRecord.{list_key_size}
-use Rattle.rio_session.specs.SessionState.{SessionState}
+use Rattle.rio_session.specs.{Due.{lengths_of, written_count}, Fillings.{filling, making, saving}, Fills.{FilledTree, without_filled}, SessionState.{SessionState}}
 
 -- ---- what a file of a state keeps
+
+-- how many baskets of these trees were written
+abbrev pub basket_total : List FilledTree → ℕ
+basket_total filled = sum_by (λ t. written_count t.fill.branches) filled
 
 -- a key as long as that of the object
 abbrev pub key_of_object : NameAndCycle × Value → KeyHead
@@ -21,58 +25,55 @@ key_of_object e = new_key (record { place = 0; directory = 100; datime = 0; cycl
 abbrev pub key_of_tree : List ℕ × TreeOf → KeyHead
 key_of_tree e = new_key (record { place = 0; directory = 100; datime = 0; cycle = e.1.cycle; class = codes "TTree"; name = e.0; title = [] }) 0
 
--- What a file of this name, with so many class lists, one at most, and so many baskets keeps in a state, as far as a close writes of it. A
--- file may have a class list that lists no declared class. No rows are pending, so no tree has to be saved.
-abbrev pub kept_of : List ℕ → ℕ → ℕ → State → KeptRecords
-kept_of name lists baskets m = let objects = entries m.objects in let trees = entries m.trees in record {
+-- What a file of this name, with so many class lists, one at most, and with the baskets of these trees keeps in a state, as far as a close
+-- writes of it. A file may have a class list that lists no declared class.
+abbrev pub kept_of : List ℕ → ℕ → List FilledTree → State → KeptRecords
+kept_of name lists filled m = let objects = entries m.objects in let trees = entries m.trees in record {
   name = name;
   heads = map key_of_object objects ++ map key_of_tree trees;
-  count = 1 + lists + length objects + length trees + baskets;
-  trees = [];
+  count = 1 + lists + length objects + length trees + basket_total filled;
+  trees = lengths_of filled;
 }
 
 -- how long the records of a close are in this state
-unfoldable pub state_need : List ℕ → ℕ → ℕ → State → ℕ
-state_need name lists baskets m = close_need (kept_of name lists baskets m)
+unfoldable pub state_need : List ℕ → ℕ → List FilledTree → State → ℕ
+state_need name lists filled m = close_need (kept_of name lists filled m)
 
 -- how many class lists are kept after a command that isn't refused
 abbrev pub lists_after : SessionState → Command → ℕ
 lists_after s (Class class) = 1
+lists_after s (Tree name branches) = 1
 lists_after s other = list_count s.info
 
--- which trees are kept then, and how many baskets their headers name
-abbrev pub trees_after : SessionState → Command → List TreeAt
-trees_after s (Delete name cycle) = without_tree name s.trees
-trees_after s other = s.trees
-
-abbrev pub baskets_after : SessionState → Command → ℕ
-baskets_after s c = length (places_of (trees_after s c))
+-- which trees are kept then
+abbrev pub trees_after : SessionState → State → Command → List FilledTree
+trees_after s m (Delete name cycle) = without_filled name s.trees
+trees_after s m (Tree name branches) = (making s m name branches).kept.trees
+trees_after s m (Fill name row) = (filling s m name row).kept.trees
+trees_after s m (Save name) = (saving s name).kept.trees
+trees_after s m other = s.trees
 
 -- ---- a command's records
 
--- No law can look into this: what it says of commands whose records aren't told here means nothing.
-pub untold_lengths : List ℕ
-untold_lengths = []
-
 -- how long the records are that a command puts, with their zero bytes
-unfoldable pub command_lengths : State → Command → List ℕ
-command_lengths m (Put name v) =
+unfoldable pub command_lengths : SessionState → State → Command → List ℕ
+command_lengths s m (Put name v) =
     let stored = put_value m v in padded_length (head_length (object_class_name stored) name + value_size m.classes stored) ∷ []
-command_lengths m (Class class) = padded_length (list_key_size + info_size (with_class m.classes class)) ∷ []
-command_lengths m (Delete name cycle) = []
-command_lengths m (Bad line place) = []
-command_lengths m (Get name cycle version) = []
-command_lengths m (Scan name class) = []
-command_lengths m Ls = []
-command_lengths m (Tree name branches) = untold_lengths
-command_lengths m (Fill name row) = untold_lengths
-command_lengths m (Save name) = untold_lengths
+command_lengths s m (Class class) = padded_length (list_key_size + info_size (with_class m.classes class)) ∷ []
+command_lengths s m (Delete name cycle) = []
+command_lengths s m (Bad line place) = []
+command_lengths s m (Get name cycle version) = []
+command_lengths s m (Scan name class) = []
+command_lengths s m Ls = []
+command_lengths s m (Tree name branches) = (making s m name branches).lengths
+command_lengths s m (Fill name row) = (filling s m name row).lengths
+command_lengths s m (Save name) = (saving s name).lengths
 
 -- A command's mark: there is no room for its records with what a close needs after it.
 unfoldable pub mark_of_command : SessionState → State → Command → Option FullMark
 mark_of_command s m c =
-    let lengths = command_lengths m c in
-    if is_full s.segments lengths (state_need s.name (lists_after s c) (baskets_after s c) (state_behind m c))
+    let lengths = command_lengths s m c in
+    if is_full s.segments lengths (state_need s.name (lists_after s c) (trees_after s m c) (state_behind m c))
     then Some (record { end = file_end s.segments; wanted = sum lengths })
     else None
 

@@ -1,8 +1,10 @@
 -- How a session begins: what it finds, what it keeps, and what a stop leaves meanwhile.
-use Rattle.std.specs.Prelude.{◌≡◌, ◌⊎◌, ℕ, List, length, false, MatchBool, Some, None, Result, Ok, Err, if◌then◌else◌}
+use Rattle.std.specs.Prelude.{◌≡◌, ◌⊎◌, ℕ, List, [], length, false, MatchBool, Some, None, Result, Ok, Err, if◌then◌else◌}
 use Rattle.rio_head.specs.{Head.{IsHeaderKind, fault_at}, declared.fault.HeadFault.{HeadFault}}
 use Rattle.rio_host.specs.{Host.{Leaves, View}, OnlyReads.{OnlyReads}}
 use Rattle.rio_dir.specs.Unborn.{header_fault, is_unborn}
+use Rattle.rio_tree.specs.{WrittenLaws.{AreReadableBranches, FitsTreeHeader}, declared.head.TreeHead.{TreeHead}}
+use Rattle.rio_fill.specs.Heads.{CanBeFilled}
 use Rattle.rio_chain.specs.{Chains.{HasChain}, Segments.{IsChain, Link}, Stops.{KeepsFront}}
 use Rattle.rio_close.specs.EndWord.{SaysEnd}
 use Rattle.rio_create.specs.{NewFile.{first_links, new_file}, declared.fault.CreateFault.{CreateFault, TheVariants.{NoMemory as NoRoomToMake, HostFault as NotMade}}}
@@ -48,6 +50,14 @@ pub record IsBegun (datime : ℕ) (s : SessionState) : Type 0 where
   pub datime_is : s.datime ≡ datime
   pub costs : s.costs ≡ 0
   pub fresh : s.failed ≡ false
+
+-- ---- trees
+
+-- a header such as a save writes it, so that the tree can be filled further and saved again
+pub record IsOpenHead (head : TreeHead) : Type 0 where
+  pub can : CanBeFilled head
+  pub readable : AreReadableBranches head.entries [] head.branches
+  pub fits : FitsTreeHeader head
 
 -- ---- what a stop leaves
 

@@ -8,11 +8,11 @@ use Rattle.rio_format.specs.Written.{written_form}
 use Rattle.rio_machine.specs.Limits.{head_length}
 use Rattle.rio_judge.specs.declared.work.StoredObject.{StoredObject}
 use Rattle.rio_chain.specs.{Record.{new_key, record_bytes}, declared.record.NewRecord.{NewRecord}, declared.key_words.KeyWords.{KeyWords}}
-use Rattle.rio_state.specs.Closing.{close_need, end_limit, is_full, padded_length}
+use Rattle.rio_state.specs.Closing.{end_limit, is_full, padded_length}
 use Rattle.rio_step.specs.Refusing.{object_class}
 use Rattle.rio_effect.specs.ObjectRecord.{object_data, object_words}
-use Rattle.rio_recover.specs.Closable.{is_fit_key, is_sized, kept_with}
-use Rattle.rio_session.specs.{Changing.{Changing}, SessionState.{SessionState}}
+use Rattle.rio_recover.specs.Closable.{is_fit_key, is_sized}
+use Rattle.rio_session.specs.{Changing.{Changing}, Due.{need_with}, SessionState.{SessionState}}
 
 -- there is no room for a record of n bytes with what a close needs behind it: where the file ends, and the length
 abbrev pub IsFullFor : List Segment → ℕ → ℕ → PlanFault → Type 0
@@ -39,7 +39,7 @@ pub record CanBePut (s : SessionState) (made : NewRecord) : Type 0 where
   pub sized : is_sized made.head ≡ true
   pub fit : is_fit_key made.head ≡ true
   pub room : file_end (with_segment made.head.seek (length made.bytes.bytes) s.segments)
-      + close_need (kept_with s.name (with_head made.head s.heads) (record_count s.segments + 1)) ≤ end_limit
+      + need_with s.name (with_head made.head s.heads) (record_count s.segments + 1) s.trees ≤ end_limit
 
 -- ---- an object that is stored
 

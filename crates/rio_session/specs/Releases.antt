@@ -3,13 +3,9 @@ use Rattle.std.specs.{Prelude.{◌≡◌, ℕ, ◌==◌, List, [], ◌∷◌, ma
 use Rattle.rio_key.specs.declared.head.KeyHead.{KeyHead}
 use Rattle.rio_dir.specs.Table.{without_head}
 use Rattle.rio_chain.specs.{Changes.{without_record}, declared.segment.Segment.{Segment}}
-use Rattle.rio_recover.specs.{Cleaning.{without_segments}, Closable.{begins_at}, TreeTable.{without_tree}}
-use Rattle.rio_session.specs.{Changing.{Changing}, Kept.{released_by}, SessionState.{SessionState}}
-
--- none of the places stands twice
-abbrev pub AreApart : List ℕ → Type 0
-AreApart [] = Unit {0}
-AreApart (p ∷ places) = (list_any (λ q. q == p) places ≡ false) × AreApart places
+use Rattle.rio_recover.specs.{Cleaning.{without_segments}, Closable.{begins_at}}
+pub use Rattle.rio_session.specs.Due.{AreApart}
+use Rattle.rio_session.specs.{Changing.{Changing}, Fills.{without_filled}, Kept.{released_by}, SessionState.{SessionState}}
 
 -- A record begins at each of these places, none is the first, and none stands twice. They needn't be in order.
 pub record AreReleasable (segments : List Segment) (places : List ℕ) : Type 0 where
@@ -24,7 +20,7 @@ deleting s head text = record {
   kept = record s {
     segments = without_segments (released_by s head.name head.cycle) s.segments;
     heads = without_head head.name head.cycle s.heads;
-    trees = without_tree head.name s.trees;
+    trees = without_filled head.name s.trees;
   };
   text = text;
   cost = 0;

@@ -1,21 +1,35 @@
 -- A session: what it keeps beside a file, what of a state it stands for, and what a stop leaves while a command is done.
-use Rattle.std.specs.Prelude.{◌≡◌, ◌⊎◌, ◌<◌, ◌≤◌, ℕ, ◌+◌, ◌-◌, ◌*◌, ◌^◌, List, [], ◌++◌, take, slice_get, Some}
+use Rattle.std.specs.Prelude.{◌≡◌, ◌⊎◌, ◌<◌, ◌≤◌, ℕ, ◌+◌, ◌-◌, ◌*◌, ◌^◌, List, [], ◌++◌, take, map, slice_get, Some}
+use Rattle.std.specs.{FinMap.{get}, List.{find}}
 use Rattle.rio_host.specs.Host.{Elapses, IsQuiet, Leaves, View}
 use Rattle.rio_chain.specs.{Chains.{HasChain, HoldsChain}, Placing.{record_count}, Segments.{Link}}
-use Rattle.rio_machine.specs.{State.{State}, declared.command.Command.{Command}, declared.command.Outcome.{Outcome, TheVariants.{Refused}}}
+use Rattle.rio_machine.specs.{State.{State, Tree}, declared.command.Command.{Command}, declared.command.Outcome.{Outcome, TheVariants.{Refused}}}
 use Rattle.rio_machine.specs.declared.refusal.Refusal.TheVariants.{Full}
-use Rattle.rio_step.specs.{Costs.{cost_of, room_limit}, ReplyText.{text_of}, Runs.{saved_of, states_of_run}, Step.{Stepped, outcome_of, step}}
-use Rattle.rio_state.specs.{Closing.{held_of, kept_in}, DirectoryKeys.{AreKeysOf}, KeyedRecords.{info_key, keyed_records}}
+use Rattle.rio_step.specs.{Costs.{cost_of, room_limit}, ReplyText.{text_of}, Runs.{saved_of, states_of_run}, Step.{Stepped, outcome_of, step}, Storable.{IsFillable}}
+use Rattle.rio_state.specs.{Closing.{held_with, kept_in, kept_with}, TreeLengths.{pending_in}, DirectoryKeys.{AreKeysOf}, KeyedRecords.{info_key, keyed_records}}
 use Rattle.rio_state.specs.{Left.{HasOpenHead, IsLeftAs, IsMarkedOpen, info_head}, Reads.{AreRecordsOf}}
-use Rattle.rio_effect.specs.AllItems.{AreAllItems}
+use Rattle.rio_effect.specs.{AllItems.{AreAllItems}, TreeChanges.{FileRecords, cuts_of_tree}, TreeCommands.{KeepsTree}}
 use Rattle.rio_recover.specs.Trees.{AreTreesOf}
-use Rattle.rio_session.specs.{Items.{IsOfKeys}, Kept.{kept_after}, Marks.{mark_of_command}}
-pub use Rattle.rio_session.specs.SessionState.{SessionState, with_cost}
+use Rattle.rio_session.specs.{Fills.{FilledTree, is_tree_of, put_in}, Items.{IsOfKeys}, Kept.{kept_after}, Marks.{mark_of_command}}
+pub use Rattle.rio_session.specs.SessionState.{SessionState, headers_of, with_cost}
 
 -- ---- what it stands for
 
--- The file reads as the state, in which no rows are pending, and what the session keeps are its segments, classes, keys, trees and name. All
--- of its records count, and no tree has an outdated header beside the one that counts.
+-- the records of a file, and the baskets of pending rows among them
+abbrev pub file_records : SessionState → List Link → FileRecords
+file_records s links = record { links = links; put = put_in s.trees }
+
+-- of each tree the open baskets hold the entries of its pending rows that are left when full baskets are cut off
+abbrev pub OpensRows : SessionState → State → Type 0
+OpensRows s m = (name : List ℕ) (t : FilledTree) (x : Tree) → find (is_tree_of name) s.trees ≡ Some t → get m.trees name ≡ Some x
+    → map (λ b. b.entries) t.fill.branches ≡ map (λ cut. cut.rest) (cuts_of_tree m x)
+
+-- and the baskets that were put since its last save hold those that were cut off
+abbrev pub HoldsPutRows : SessionState → State → List Link → Type 0
+HoldsPutRows s m links = (name : List ℕ) (x : Tree) → get m.trees name ≡ Some x → KeepsTree (file_records s links) m name x
+
+-- The file reads as the state without its pending rows, and what the session keeps are its segments, classes, keys, trees and name. All of
+-- its records count, or are baskets of pending rows; no tree has an outdated header beside the one that counts.
 pub record HoldsState (s : SessionState) (m : State) (file : List ℕ) : Type 0 where
   pub links : List Link
   pub chain : HasChain links s.segments file
@@ -23,13 +37,16 @@ pub record HoldsState (s : SessionState) (m : State) (file : List ℕ) : Type 0 
   pub records : AreRecordsOf (keyed_records links) (saved_of m)
   pub stands : IsOfKeys s m
   pub keys : AreKeysOf (keyed_records links) s.heads
-  pub trees : AreTreesOf (keyed_records links) s.trees
+  pub trees : AreTreesOf (keyed_records links) (headers_of s)
   pub items : AreAllItems links
+  pub fillable : IsFillable m
+  pub rows : HoldsPutRows s m links
+  pub opens : OpensRows s m
   pub info : s.info ≡ info_head (info_key (keyed_records links))
   pub name : (kept_in links).name ≡ s.name
-  pub count : (kept_in links).count ≡ record_count s.segments
+  pub count : (kept_with (pending_in m) links).count ≡ record_count s.segments
   -- what the file holds is bounded by its length when it was opened and the costs of the commands since
-  pub held : s.costs < 2 ^ 64 - 1 → held_of links ≤ 3 * s.opened + s.costs + 10000
+  pub held : s.costs < 2 ^ 64 - 1 → held_with (pending_in m) links ≤ 3 * s.opened + s.costs + 10000
 
 -- Session and host stand for the state, with this text said.
 pub record StandsFor (v : View) (s : SessionState) (m : State) (text : List ℕ) : Type 0 where

@@ -1,11 +1,12 @@
 //! Where the records stand that a delete releases.
 ghost use Rattle.std.specs.Prelude.{◌≡◌, ◌++◌, map, IfOk, OnOk};
-ghost use Rattle.rio_state.specs.Trees.{basket_places};
+ghost use Rattle.rio_session.specs.Fills.{places_of_fill};
 
 use crate::Session;
+use crate::open_tree::OpenTree;
 use rio_key::KeyHead;
 use rio_num::NoMemory;
-use rio_tree::{BasketAt, TreeHead};
+use rio_tree::BasketAt;
 use std::alloc::Global;
 
 // Puts the places of these baskets at the end.
@@ -19,13 +20,16 @@ fn push_places(places: &mut Vec<u64>, baskets: &[BasketAt]) -> Result<(), NoMemo
     Ok(())
 }
 
-// Where the baskets stand that a header names, branch by branch.
-fn basket_places(alloc: Global, head: &TreeHead) -> Result<Vec<u64>, NoMemory>
-    ensures { IfOk result (λ places. places.items ≡ basket_places head.now) }
+// Where the baskets of a tree stand that were written, branch by branch.
+fn basket_places(alloc: Global, tree: &OpenTree) -> Result<Vec<u64>, NoMemory>
+    ensures { IfOk result (λ places. places.items ≡ places_of_fill tree.now.fill) }
 {
     let mut places = Vec::new(alloc);
-    for branch in head.branches.as_slice() {
-        push_places(&mut places, branch.baskets.as_slice())?;
+    for k in 0..tree.width() {
+        match tree.filler.baskets(k) {
+            Some(baskets) => push_places(&mut places, baskets)?,
+            None => {}
+        }
     }
     Ok(places)
 }
@@ -43,9 +47,9 @@ impl Session {
     {
         // Looked at so that the form of the segments is known to the proof.
         let _end = self.chain.end();
-        match self.headers.find(name) {
+        match self.filled.find(name) {
             Some(tree) => {
-                let mut places = basket_places(self.alloc, &tree.head)?;
+                let mut places = basket_places(self.alloc, tree)?;
                 places.sort_unstable();
                 Ok(places)
             }

@@ -1,4 +1,5 @@
 //! An object or a tree is deleted.
+use crate::open_tree::Due;
 use crate::release::release_all;
 use crate::{Session, SessionFault};
 use rio_host::Host;
@@ -13,8 +14,26 @@ impl Session {
     ghost use Rattle.rio_machine.specs.declared.command.Outcome.{Outcome as BecameOf};
     ghost use Rattle.rio_session.specs.{Changing.{ChangesFile}, Kept.{released_by}, Releases.{AreReleasable, deleting}};
     ghost use Rattle.rio_session.specs.Doable.{IsToDelete};
+    ghost use Rattle.rio_session.specs.Due.{due_of};
+    ghost use Rattle.rio_session.specs.Fills.{without_filled};
     ghost use Rattle.rio_session.specs.Does.{Does};
     ghost use Rattle.rio_session.specs.Session.{IsReady};
+
+    // What all saves that are due write without the tree of the name, if there is one.
+    fn due_without(&self, name: &[u8]) -> Due
+        requires fresh { self.now.failed ≡ false }
+        ensures { result ≡ due_of (without_filled name.now self.now.trees) }
+    {
+        match self.filled.find(name) {
+            Some(tree) => {
+                let own = tree.due();
+                let bytes = self.due.bytes - own.bytes;
+                let baskets = self.due.baskets - own.baskets;
+                Due { bytes, baskets }
+            }
+            None => self.due,
+        }
+    }
 
     // Releases these records, which are those of the delete, takes the key and its tree out, and prints a reply. All memory
     // is allocated before the first release.
@@ -38,12 +57,14 @@ impl Session {
     {
         self.chain.reserve(places.len() as u64)?;
         let sum = self.heads_bytes - key_length(head);
+        let due = self.due_without(head.name.as_slice());
         match release_all(&mut self.chain, host, places) {
             Ok(()) => {
                 let _ = self.table.remove(head.name.as_slice(), head.cycle);
                 let _ = self.trees.remove(head.name.as_slice());
-                let _ = self.headers.remove(head.name.as_slice());
+                let _ = self.filled.remove(head.name.as_slice());
                 self.heads_bytes = sum;
+                self.due = due;
                 self.answer(host, text, 0)?;
                 Ok(Outcome::Accepted)
             }

@@ -3,7 +3,7 @@ use crate::{Session, SessionFault};
 use rio_chain::ReadFault;
 use rio_host::Host;
 use rio_key::KeyHead;
-use rio_machine::{Outcome, Refusal};
+use rio_machine::Outcome;
 use rio_model::MapFault;
 use rio_num::Bytes;
 use rio_reply::{get_reply, get_reply_as};
@@ -42,17 +42,8 @@ impl Session {
         ensures { PrintsTold (record_told self.old.classes head.now version bytes.now)
             (H.view host.old) (H.view host.new) self.old self.new result }
     {
-        match self.told(head, version, bytes) {
-            Ok(text) => {
-                self.answer(host, text.as_slice(), 0)?;
-                Ok(Outcome::Accepted)
-            }
-            Err(MapFault::KindChanged { member }) => {
-                self.refuse(host, Refusal::KindChanged { member }, 0)
-            }
-            Err(MapFault::NoVersion) => self.refuse(host, Refusal::NoVersion, 0),
-            Err(MapFault::NoMemory) => Err(SessionFault::NoMemory),
-        }
+        let told = self.told(head, version, bytes);
+        self.print_told(host, told)
     }
 
     // Reads the object of a key, and prints it as it is or in a version of its class.

@@ -8,7 +8,6 @@ use rio_info::write_info;
 use rio_key::key_length_of;
 use rio_machine::Outcome;
 use rio_num::{Name, NoMemory};
-use rio_state::close_length;
 use std::alloc::Global;
 
 // What the key of a class list says.
@@ -47,8 +46,7 @@ impl Session {
     ghost use Rattle.std.specs.Prelude.{◌≡◌, ◌+◌, ◌≤◌, length, false, IfOk};
     ghost use Rattle.rio_effect.specs.ClassRecord.{next_list_cycle};
     ghost use Rattle.rio_machine.specs.declared.command.Outcome.{Outcome as BecameOf};
-    ghost use Rattle.rio_recover.specs.Closable.{kept_with};
-    ghost use Rattle.rio_state.specs.Closing.{close_need};
+    ghost use Rattle.rio_session.specs.Due.{need_with};
     ghost use Rattle.rio_session.specs.Changing.{ChangesFile};
     ghost use Rattle.rio_session.specs.Lists.{CanBeListedAt, CanReplace, IsListRecord, listing};
     ghost use Rattle.rio_session.specs.Lists.{listing_at};
@@ -58,14 +56,14 @@ impl Session {
     // What a close needs with a class list.
     pub(crate) fn need_with_list(&self) -> u64
         requires fresh { self.now.failed ≡ false }
-        ensures { result ≡ close_need (kept_with self.now.name self.now.heads
-            (2 + length self.now.heads + length (baskets_of self.now))) }
+        ensures { result ≡ need_with self.now.name self.now.heads
+            (2 + length self.now.heads + length (baskets_of self.now)) self.now.trees }
     {
         let count = match &self.info {
             Some(_) => self.chain.live(),
             None => self.chain.live() + 1,
         };
-        close_length(self.name.as_slice(), self.heads_bytes, count)
+        self.need_by(self.heads_bytes, count)
     }
 
     // The cycle of the next class list.
@@ -80,7 +78,7 @@ impl Session {
     }
 
     // The record of the list of all classes, for this place.
-    fn make_list(&self, place: u64) -> Result<NewRecord, NoMemory>
+    pub(crate) fn make_list(&self, place: u64) -> Result<NewRecord, NoMemory>
         requires at { CanBeListedAt self.now place }
         ensures { IfOk result (IsListRecord self.now place) }
     {

@@ -1,5 +1,5 @@
 //! A session on a made file is begun.
-ghost use Rattle.std.specs.Prelude.{◌≡◌, ℕ, List, map, Some, false, IfOk, OnOk};
+ghost use Rattle.std.specs.Prelude.{◌≡◌, ◌≤◌, ℕ, List, map, Some, false, IfOk, OnOk};
 ghost use Rattle.byteorder.specs.Endian.{big_bytes};
 ghost use Rattle.rio_host.specs.Host.{Any, Becomes, Elapses, IsDiskCause, IsLength, IsQuiet, IsWithin, OnlyWrites};
 ghost use Rattle.rio_host.specs.OnlyReads.{OnlyReads};
@@ -12,21 +12,30 @@ ghost use Rattle.rio_machine.specs.State.{State};
 ghost use Rattle.rio_recover.specs.Recovered.{HasRoomBehind, IsRecovered};
 ghost use Rattle.rio_recover.specs.TreeTable.{AreInOrder};
 ghost use Rattle.rio_recover.specs.Whole.{IsWhole};
+ghost use Rattle.rio_state.specs.Closing.{end_limit};
 ghost use Rattle.rio_state.specs.Left.{ReadsClosedUnlessOpen, open_end};
 ghost use Rattle.rio_state.specs.Reads.{ReadsAsState};
 ghost use Rattle.rio_session.specs.Opening.{BeginsOn, IsBegun, IsNotOpened, IsOpenCause};
 ghost use Rattle.rio_session.specs.Opening.{LeavesFileOrUnclosed, SparesFile, TellsWhyNot};
 ghost use Rattle.rio_session.specs.Session.{IsReady, StandsFor};
-ghost use Rattle.rio_session.specs.SessionState.{kept_tree_of};
+ghost use Rattle.rio_session.specs.SessionState.{filled_tree_of, kept_tree_of};
+ghost use Rattle.std.specs.List.{All};
+ghost use Rattle.rio_fill.specs.Heads.{CanBeFilled};
+ghost use Rattle.rio_tree.specs.HeaderLength.{basket_count};
 ghost use Rattle.rio_tree.specs.WrittenLaws.{stated_defs};
 
+use crate::bare_head::{bare_head, is_long_tree};
+use crate::header::header_bytes;
+use crate::open_tree::{Due, OpenTree};
+use crate::open_trees::OpenTrees;
 use crate::{OpenFault, Session};
 use rio_chain::put_word;
+use rio_fill::Filler;
 use rio_host::{Failed, Host, HostFault};
 use rio_leaf::BranchDefs;
 use rio_num::NoMemory;
 use rio_recover::{Recovered, TreeAt, clean, recover};
-use rio_tree::Branch;
+use rio_tree::{Branch, written_tree_is_read};
 use rio_tree_table::{KeptTree, TreeTable};
 use std::alloc::Global;
 
@@ -65,8 +74,9 @@ fn stated_defs(alloc: Global, branches: &[Branch]) -> Result<BranchDefs, NoMemor
 }
 
 // What is kept of a tree with this header: no rows are pending.
+#[tactic(auto, using(crate::proofs::HeaderOfFill::defs_begun))]
 fn kept_tree_of(alloc: Global, tree: &TreeAt) -> Result<KeptTree, NoMemory>
-    ensures { IfOk result (λ kept. kept ≡ kept_tree_of tree.now) }
+    ensures { IfOk result (λ kept. kept ≡ kept_tree_of (filled_tree_of tree.now)) }
 {
     Ok(KeptTree {
         name: tree.name.copy()?,
@@ -79,7 +89,8 @@ fn kept_tree_of(alloc: Global, tree: &TreeAt) -> Result<KeptTree, NoMemory>
 // What is kept of the trees with these headers.
 fn kept_trees(alloc: Global, trees: &[TreeAt]) -> Result<TreeTable, NoMemory>
     requires { AreInOrder trees.now }
-    ensures { IfOk result (λ table. table.trees ≡ map kept_tree_of trees.now) }
+    ensures { IfOk result
+        (λ table. table.trees ≡ map (λ t. kept_tree_of (filled_tree_of t)) trees.now) }
 {
     let mut table = TreeTable::new(alloc);
     for tree in trees {
@@ -89,6 +100,40 @@ fn kept_trees(alloc: Global, trees: &[TreeAt]) -> Result<TreeTable, NoMemory>
     Ok(table)
 }
 
+// The tree with this header, and nothing pending. No file with a longer name of a tree or with more leaves comes here.
+fn filled_tree_of(alloc: Global, tree: &TreeAt) -> Result<OpenTree, NoMemory>
+    requires fillable { CanBeFilled tree.now.head }
+    requires few { basket_count tree.now.head ≤ end_limit }
+    ensures { IfOk result (λ filled. filled ≡ filled_tree_of tree.now) }
+{
+    let defs = stated_defs(alloc, tree.head.branches.as_slice())?;
+    if is_long_tree(tree.name.as_slice(), defs.as_slice()) {
+        return Err(NoMemory);
+    }
+    let bare = bare_head(alloc, defs.as_slice())?;
+    let header_bytes = header_bytes(alloc, tree.name.as_slice(), &bare)?;
+    Ok(OpenTree {
+        name: tree.name.copy()?,
+        filler: Filler::new(alloc, &tree.head)?,
+        header_bytes,
+    })
+}
+
+// Those with these headers.
+fn filled_trees(alloc: Global, trees: &[TreeAt]) -> Result<OpenTrees, NoMemory>
+    requires order { AreInOrder trees.now }
+    requires fillable { All (λ t. CanBeFilled t.head) trees.now }
+    requires few { All (λ t. basket_count t.head ≤ end_limit) trees.now }
+    ensures { IfOk result (λ filled. filled.trees ≡ map filled_tree_of trees.now) }
+{
+    let mut filled = OpenTrees::new(alloc);
+    for tree in trees {
+        filled.reserve_one()?;
+        filled.insert(filled_tree_of(alloc, tree)?);
+    }
+    Ok(filled)
+}
+
 // Begins a session on what was recovered of the file: marks the file as open, and then releases its
 // garbage. `opened` is the file's length. HostFault comes only where a call on the file failed.
 fn begin<H: Host>(
@@ -96,6 +141,7 @@ fn begin<H: Host>(
     host: &mut H,
     mut recovered: Recovered,
     trees: TreeTable,
+    filled: OpenTrees,
     opened: u64,
     datime: u32,
 ) -> Result<Session, HostFault>
@@ -104,7 +150,8 @@ fn begin<H: Host>(
     requires fresh { recovered.chain.spent ≡ false }
     requires whole { IsWhole recovered }
     requires room { HasRoomBehind recovered }
-    requires trees { trees.trees ≡ map kept_tree_of recovered.trees }
+    requires filled { filled.trees ≡ map filled_tree_of recovered.trees }
+    requires trees { trees.trees ≡ map kept_tree_of filled.trees }
     requires opened { IsLength (H.view host.old) opened }
     ensures any_moment { (file text : List ℕ) (m : State) → IsQuiet (H.view host.old)
         → (H.view host.old).holds ≡ Some file → (H.view host.old).said ≡ Some text
@@ -123,18 +170,20 @@ fn begin<H: Host>(
     ensures writes { OnlyWrites (H.view host.old) (H.view host.new) }
     ensures cause { IsDiskCause (H.view host.old) (H.view host.new) result }
 {
+    written_tree_is_read();
     mark_open(host)?;
     clean(host, &mut recovered)?;
     let Recovered {
         chain,
         registry,
         table,
-        trees: headers,
         info,
         name,
         nbytes_name,
         ..
     } = recovered;
+    // It is a chain of segments, whatever the host tells.
+    chain.end();
     let heads_bytes = table.heads_length();
     Ok(Session {
         alloc,
@@ -143,7 +192,11 @@ fn begin<H: Host>(
         table,
         heads_bytes,
         trees,
-        headers,
+        filled,
+        due: Due {
+            bytes: 0,
+            baskets: 0,
+        },
         info,
         name,
         nbytes_name,
@@ -186,5 +239,6 @@ pub(crate) fn open_made<H: Host>(
     let opened = host.length()?;
     let recovered = recover(alloc, host)?;
     let trees = kept_trees(alloc, recovered.trees.as_slice())?;
-    Ok(begin(alloc, host, recovered, trees, opened, datime)?)
+    let filled = filled_trees(alloc, recovered.trees.as_slice())?;
+    Ok(begin(alloc, host, recovered, trees, filled, opened, datime)?)
 }

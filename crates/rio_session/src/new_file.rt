@@ -13,12 +13,13 @@ ghost use Rattle.rio_session.specs.Opening.{BeginsOn, IsBegun, IsNotOpened, IsOp
 ghost use Rattle.rio_session.specs.Opening.{TellsWhyNot};
 ghost use Rattle.rio_session.specs.Session.{IsReady, StandsFor};
 
+use crate::open_tree::Due;
+use crate::open_trees::OpenTrees;
 use crate::{OpenFault, Session};
 use rio_create::{Created, create};
 use rio_dir::KeyTable;
 use rio_host::Host;
 use rio_num::Name;
-use rio_recover::Trees;
 use rio_registry::Registry;
 use rio_tree_table::TreeTable;
 use std::alloc::Global;
@@ -65,7 +66,11 @@ pub(crate) fn open_new<H: Host>(
         table: KeyTable::new(alloc),
         heads_bytes: 0,
         trees: TreeTable::new(alloc),
-        headers: Trees::new(alloc),
+        filled: OpenTrees::new(alloc),
+        due: Due {
+            bytes: 0,
+            baskets: 0,
+        },
         info: None,
         name: own,
         nbytes_name,

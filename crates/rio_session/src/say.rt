@@ -2,10 +2,16 @@
 use crate::{Session, SessionFault};
 use rio_host::Host;
 use rio_machine::{Outcome, Refusal};
+use rio_model::MapFault;
+use rio_num::{Bytes, NoMemory};
 use rio_reply::{item_listing_reply, refusal_reply};
 
 impl Session {
-    ghost use Rattle.std.specs.Prelude.{◌≡◌, IfOk, IsOkUnless};
+    ghost use Rattle.std.specs.Prelude.{◌≡◌, ℕ, List, Err, IfOk, IsErrOf, IsOkUnless};
+    ghost use Rattle.rio_num.specs.Answers.{GivesUnless};
+    ghost use Rattle.rio_model.specs.Mapping.{Mapped};
+    ghost use Rattle.rio_model.specs.declared.map_fault.MapFault.TheVariants.{NoMemory as OutOfMemory};
+    ghost use Rattle.rio_session.specs.Gets.{PrintsTold};
     ghost use Rattle.rio_machine.specs.declared.command.Outcome.{Outcome as BecameOf};
     ghost use Rattle.rio_reply.specs.Told.{item_listing_of};
     ghost use Rattle.rio_step.specs.ReplyText.{text_of};
@@ -56,6 +62,39 @@ impl Session {
         Ok(Outcome::Refused(refusal))
     }
 
+    // Prints what is told of an object or of rows, or why they can't be had in the version.
+    pub(crate) fn print_told<H: Host>(
+        &mut self,
+        host: &mut H,
+        told: Result<Bytes, MapFault>,
+    ) -> Result<Outcome, SessionFault>
+        ensures prints { (meant : Mapped (List ℕ))
+            → GivesUnless OutOfMemory (λ text. text.bytes) told meant
+            → PrintsTold meant (H.view host.old) (H.view host.new) self.old self.new result }
+        ensures lacks { told ≡ Err OutOfMemory → IsErrOf result Fault.NoMemory }
+    {
+        match told {
+            Ok(text) => {
+                self.answer(host, text.as_slice(), 0)?;
+                Ok(Outcome::Accepted)
+            }
+            Err(MapFault::KindChanged { member }) => {
+                self.refuse(host, Refusal::KindChanged { member }, 0)
+            }
+            Err(MapFault::NoVersion) => self.refuse(host, Refusal::NoVersion, 0),
+            Err(MapFault::NoMemory) => Err(SessionFault::NoMemory),
+        }
+    }
+
+    // What is printed of the names of all objects and trees.
+    fn listing(&self) -> Result<Bytes, NoMemory>
+        ensures text { IfOk result (λ text. text.bytes
+            ≡ item_listing_of (kept_trees self.now) self.now.heads) }
+        ensures sound { IsSoundState self.now }
+    {
+        item_listing_reply(self.alloc, self.table.as_slice(), &self.trees)
+    }
+
     // Prints the names of all objects and trees.
     pub(crate) fn list<H: Host>(&mut self, host: &mut H) -> Result<Outcome, SessionFault>
         ensures says { SaysReply (item_listing_of (kept_trees self.old) self.old.heads) 0
@@ -64,7 +103,8 @@ impl Session {
         ensures reads { (H.view host.new).reads ≡ (H.view host.old).reads }
         ensures sound { IsSoundState self.old }
     {
-        let text = item_listing_reply(self.alloc, self.table.as_slice(), &self.trees)?;
+        let _ = &self.alloc;
+        let text = self.listing()?;
         self.answer(host, text.as_slice(), 0)?;
         Ok(Outcome::Accepted)
     }

@@ -1,12 +1,14 @@
 //! A session on a file.
 use crate::SessionFault;
+use crate::open_tree::Due;
+use crate::open_trees::OpenTrees;
 use rio_chain::Chain;
 use rio_dir::KeyTable;
+use rio_effect::headers_have_records;
 use rio_host::Host;
 use rio_key::KeyHead;
 use rio_machine::{Command, Outcome};
 use rio_num::{Boxed, Name};
-use rio_recover::Trees;
 use rio_registry::Registry;
 use rio_tree_table::TreeTable;
 use std::alloc::Global;
@@ -23,8 +25,10 @@ pub struct Session {
     pub(crate) heads_bytes: u64,
     // The trees, as commands are judged by them and as they are listed.
     pub(crate) trees: TreeTable,
-    // What their headers say.
-    pub(crate) headers: Trees,
+    // Their baskets, and their pending rows.
+    pub(crate) filled: OpenTrees,
+    // What a close writes of them.
+    pub(crate) due: Due,
     pub(crate) info: Option<KeyHead>,
     pub(crate) name: Name,
     pub(crate) nbytes_name: u32,
@@ -39,9 +43,9 @@ impl Model for Session {
     ghost use Rattle.rio_dir.specs.Table.{heads_size};
     ghost use Rattle.rio_model.specs.StateClasses.{StateClasses};
     ghost use Rattle.rio_recover.specs.Classes.{HasListCycle};
-    ghost use Rattle.rio_recover.specs.Closable.{IsClosable};
-    ghost use Rattle.rio_recover.specs.Trees.{places_of};
     ghost use Rattle.rio_recover.specs.Whole.{HoldsDirectory};
+    ghost use Rattle.rio_session.specs.Due.{IsClosableWith, due_of};
+    ghost use Rattle.rio_session.specs.Fills.{bare_tree};
     ghost use Rattle.rio_session.specs.Session.{SessionState};
     ghost use Rattle.rio_session.specs.SessionState.{kept_tree_of};
 
@@ -51,7 +55,7 @@ impl Model for Session {
       segments = s.chain.segments;
       classes = s.registry;
       heads = s.table.heads;
-      trees = s.headers;
+      trees = map bare_tree s.filled.trees;
       info = s.info;
       name = s.name;
       nbytes_name = s.nbytes_name;
@@ -62,14 +66,17 @@ impl Model for Session {
     } };
 
     // The classes are such as commands declare, and the cycle of the class list is low enough for one more.
-    // Of each header a tree is kept, without pending rows. The directory record is within the first record.
+    // Of each tree the same is kept as commands are judged by it, and what a close writes of all trees is counted. The directory
+    // record is within the first record.
     ghost invariant = { λ s. record {
       classes : StateClasses s.registry;
       listed : HasListCycle s.info s.registry;
-      kept : s.failed ≡ false → IsClosable s.chain.segments s.table.heads s.info
-          (places_of s.headers) s.name;
+      kept : s.failed ≡ false → IsClosableWith s.chain.segments s.table.heads
+          (map bare_tree s.filled.trees) s.info
+          s.name;
       fresh : s.failed ≡ false → s.chain.spent ≡ false;
-      trees : s.trees.trees ≡ map kept_tree_of s.headers;
+      trees : s.trees.trees ≡ map kept_tree_of s.filled.trees;
+      due : s.failed ≡ false → s.due ≡ due_of s.filled.trees;
       bytes : s.failed ≡ false → s.heads_bytes ≡ heads_size s.table.heads;
       directory : s.failed ≡ false → HoldsDirectory s.nbytes_name s.chain.segments;
     } };
@@ -78,7 +85,6 @@ impl Model for Session {
 impl Session {
     ghost use Rattle.std.specs.Prelude.{◌≡◌, ℕ, List, false, IsTrue, OnOk};
     ghost use Rattle.rio_machine.specs.State.{State};
-    ghost use Rattle.rio_judge.specs.Judging.{is_judged};
     ghost use Rattle.rio_step.specs.Statable.{IsStatable};
     ghost use Rattle.rio_session.specs.Causes.{NeverReads};
     ghost use Rattle.rio_session.specs.Does.{FileAfter, KeptAfter, TextAfter};
@@ -107,7 +113,6 @@ impl Session {
         command: &Command,
     ) -> Result<Outcome, SessionFault>
         requires fresh { self.old.failed ≡ false }
-        requires built { IsTrue (is_judged command.now) }
         requires statable { IsStatable command.now }
         requires ready { IsReady (H.view host.old) self.old }
         ensures file { FileAfter (H.view host.old) (H.view host.new) self.old self.new command.now
@@ -126,6 +131,7 @@ impl Session {
         ensures reads { NeverReads command.now
             → (H.view host.new).reads ≡ (H.view host.old).reads }
     {
+        headers_have_records();
         self.judge_and_do(host, command)
     }
 }

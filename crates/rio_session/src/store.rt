@@ -7,7 +7,6 @@ use rio_judge::StoredObject;
 use rio_machine::{Outcome, Refusal};
 use rio_num::{NoMemory, padded};
 use rio_reply::put_reply;
-use rio_state::close_length;
 
 impl Session {
     ghost use Rattle.std.specs.Prelude.{◌≡◌, ◌+◌, ◌≤◌, ◌<◌, ◌^◌, length, true, false, IfOk};
@@ -17,8 +16,8 @@ impl Session {
     ghost use Rattle.rio_machine.specs.declared.command.Command.{Command as Line};
     ghost use Rattle.rio_judge.specs.declared.work.AnyWork.{AnyWork};
     ghost use Rattle.rio_judge.specs.declared.work.Work.{Work};
-    ghost use Rattle.rio_state.specs.Closing.{close_need};
-    ghost use Rattle.rio_recover.specs.Closable.{is_sized, kept_with};
+    ghost use Rattle.rio_recover.specs.Closable.{is_sized};
+    ghost use Rattle.rio_session.specs.Due.{need_with};
     ghost use Rattle.rio_session.specs.Doable.{CanBeDone, IsToDo};
     ghost use Rattle.rio_session.specs.Does.{Does};
     ghost use Rattle.rio_session.specs.Puts.{IsStored, IsStoredRecord};
@@ -30,11 +29,12 @@ impl Session {
         requires class { length class.now ≤ 100 }
         requires name { length name.now ≤ 100 }
         ensures { (h : KeyHead) → is_sized h ≡ true → h.class ≡ class.now → h.name ≡ name.now
-            → result ≡ close_need (kept_with self.now.name (with_head h self.now.heads)
-            (record_count self.now.segments + 1)) }
+            → result ≡ need_with self.now.name (with_head h self.now.heads)
+            (record_count self.now.segments + 1) self.now.trees }
     {
         let heads = self.heads_bytes + key_length(class, name);
-        close_length(self.name.as_slice(), heads, self.chain.live() + 1)
+        let live = self.chain.live() + 1;
+        self.need_by(heads, live)
     }
 
     // The record of an object.

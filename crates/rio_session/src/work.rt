@@ -6,7 +6,6 @@ use rio_machine::{Command, Outcome};
 
 impl Session {
     ghost use Rattle.std.specs.Prelude.{◌≡◌, ◌<◌, ◌^◌, false, IsTrue};
-    ghost use Rattle.rio_judge.specs.Judging.{is_judged};
     ghost use Rattle.rio_machine.specs.declared.command.Command.{Command as Line};
     ghost use Rattle.rio_step.specs.Statable.{IsStatable};
     ghost use Rattle.rio_session.specs.Causes.{NeverReads};
@@ -34,7 +33,26 @@ impl Session {
         }
     }
 
-    // Does the work of a command. Of trees only a delete is done as of now.
+    // Does the work of a command with a tree.
+    fn tree_work<H: Host>(&mut self, host: &mut H, work: TreeWork) -> Result<Outcome, SessionFault>
+        requires fresh { self.old.failed ≡ false }
+        requires ready { IsReady (H.view host.old) self.old }
+        requires can { AnyCanBeDone self.old (AnyWork.Tree work) }
+        ensures does { (c : Line) → IsToDo self.old c (AnyWork.Tree work)
+            → Does (H.view host.old) (H.view host.new) self.old self.new c result }
+        ensures reads { ReadsNothing (AnyWork.Tree work)
+            → (H.view host.new).reads ≡ (H.view host.old).reads }
+    {
+        match work {
+            TreeWork::Make(new) => self.tree(host, new),
+            TreeWork::Fill(row) => self.fill(host, row),
+            TreeWork::Save(head) => self.save(host, &head),
+            TreeWork::Delete(head) => self.delete(host, &head),
+            TreeWork::Scan { head, class } => self.scan(host, &head, &class),
+        }
+    }
+
+    // Does the work of a command.
     fn work<H: Host>(&mut self, host: &mut H, work: AnyWork) -> Result<Outcome, SessionFault>
         requires fresh { self.old.failed ≡ false }
         requires ready { IsReady (H.view host.old) self.old }
@@ -45,8 +63,7 @@ impl Session {
     {
         match work {
             AnyWork::Item(work) => self.item_work(host, work),
-            AnyWork::Tree(TreeWork::Delete(head)) => self.delete(host, &head),
-            AnyWork::Tree(_) => unreachable!(),
+            AnyWork::Tree(work) => self.tree_work(host, work),
         }
     }
 
@@ -57,7 +74,6 @@ impl Session {
         command: &Command,
     ) -> Result<Outcome, SessionFault>
         requires fresh { self.old.failed ≡ false }
-        requires built { IsTrue (is_judged command.now) }
         requires statable { IsStatable command.now }
         requires ready { IsReady (H.view host.old) self.old }
         ensures does { Does (H.view host.old) (H.view host.new) self.old self.new command.now

@@ -30,7 +30,7 @@ record_gone file p (GapAt q n ∷ links) r holds i =
     record_gone file (p + n) links r holds.1 (subst (λ (rs : List KeyedRecord). In r rs) (gap_records q n (without_record r.head.seek links)) i)
 
 -- of a list that begins with an element, and that no longer has it, the rest is left
-rest_is_left : (r : KeyedRecord) (old new rest : List KeyedRecord) → HasOneMoreIn new old r → old ≡ r ∷ rest → (In r new → ⊥) → new ≡ rest
+pub rest_is_left : (r : KeyedRecord) (old new rest : List KeyedRecord) → HasOneMoreIn new old r → old ≡ r ∷ rest → (In r new → ⊥) → new ≡ rest
 rest_is_left r old new rest h begins gone = by h.front h.before (sym begins ∙ h.after)
   where
     by : (front : List KeyedRecord) → new ≡ front ++ h.back → r ∷ rest ≡ front ++ r ∷ h.back → new ≡ rest

@@ -1,6 +1,6 @@
 -- Elements of lists, and tests that they pass.
 use Rattle.std.proofs.Common.{◌≡◌, ◌⊎◌, inl, inr, ⊎_elim, zero, suc, ◌∙◌, List, [], ◌∷◌, ◌++◌, map, Bool, true, false, cond, ◌||◌, Some, refl, sym, ap, subst, arith}
-use Rattle.std.proofs.lemmas.Bool.{and_parts, or_right}
+use Rattle.std.proofs.lemmas.Bool.{and_from, and_parts, or_right}
 use Rattle.std.specs.List.{Contains, filter, find, list_all, list_any}
 
 -- the element is among them
@@ -42,6 +42,10 @@ module _ {A : Type 0} where
   all_at p x [] all i = absurd i
   all_at p x (y ∷ ys) all (inl e) = ap p (sym e) ∙ (and_parts (p y) (list_all p ys) all).0
   all_at p x (y ∷ ys) all (inr i) = all_at p x ys (and_parts (p y) (list_all p ys) all).1 i
+
+  pub all_from : (p : A → Bool) (xs : List A) → ((x : A) → In x xs → p x ≡ true) → list_all p xs ≡ true
+  all_from p [] each = refl
+  all_from p (x ∷ xs) each = and_from (p x) (list_all p xs) (each x (inl refl)) (all_from p xs (λ y i. each y (inr i)))
 
   pub any_from : (p : A → Bool) (x : A) (xs : List A) → In x xs → p x ≡ true → list_any p xs ≡ true
   any_from p x [] i e = absurd i

@@ -12,14 +12,14 @@ use Rattle.rio_state.specs.TreeLengths.{TreeLengths, cut_count, entries_by_branc
 
 -- ---- no rows
 
-abbrev no_cuts : List BranchDef → List Cut
+abbrev pub no_cuts : List BranchDef → List Cut
 no_cuts bs = map cut_of (entries_by_branch bs [])
 
-no_count : (bs : List BranchDef) → cut_count (no_cuts bs) ≡ 0
+pub no_count : (bs : List BranchDef) → cut_count (no_cuts bs) ≡ 0
 no_count [] = refl
 no_count (b ∷ bs) = omega (arith, sum_by-cons (λ (cut : Cut). length (baskets_of_cut cut)) (cut_of []) (no_cuts bs), no_count bs)
 
-no_put : (bs : List BranchDef) → put_count (no_cuts bs) ≡ 0
+pub no_put : (bs : List BranchDef) → put_count (no_cuts bs) ≡ 0
 no_put [] = refl
 no_put (b ∷ bs) = omega (arith, sum_by-cons (λ (cut : Cut). length cut.put) (cut_of []) (no_cuts bs), no_put bs)
 

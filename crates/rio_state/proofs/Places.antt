@@ -145,7 +145,7 @@ flat_map_in f p (x ∷ xs) i = by (in_either p (f x) (flat_map f xs) i) (flat_ma
     by (inl j) rest = (x, inl refl, j)
     by (inr j) rest = let r = rest j in (r.0, inr r.1, r.2)
 
-distinct_append : (ps qs : List ℕ) → AreDistinct ps → AreDistinct qs → ((p : ℕ) → In p ps → In p qs → ⊥) → AreDistinct (ps ++ qs)
+pub distinct_append : (ps qs : List ℕ) → AreDistinct ps → AreDistinct qs → ((p : ℕ) → In p ps → In p qs → ⊥) → AreDistinct (ps ++ qs)
 distinct_append [] qs one two apart = two
 distinct_append (p ∷ ps) qs one two apart = (
   (λ i. by (in_either p ps qs i)),

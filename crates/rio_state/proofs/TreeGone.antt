@@ -20,7 +20,8 @@ use Rattle.rio_state.proofs.TreesSame.{HoldsTree, NamesBasket, all_agree, basket
 
 -- ---- lists
 
-filter_agree_in : {A : Type 0} (p q : A → Bool) (xs : List A) → ((x : A) → In x xs → p x ≡ q x) → filter p xs ≡ filter q xs
+-- two tests that agree at the elements of a list keep the same of them
+pub filter_agree_in : {A : Type 0} (p q : A → Bool) (xs : List A) → ((x : A) → In x xs → p x ≡ q x) → filter p xs ≡ filter q xs
 filter_agree_in p q [] same = refl
 filter_agree_in p q (x ∷ xs) same =
     let here = same x (inl refl) in
@@ -28,7 +29,7 @@ filter_agree_in p q (x ∷ xs) same =
     λ i. cond (here i) (x ∷ rest i) (rest i)
 
 -- with fewer others they are named once too
-once_fewer : (fewer others ps : List ℕ) → ((p : ℕ) → In p fewer → In p others) → are_named_once others ps ≡ true → are_named_once fewer ps ≡ true
+pub once_fewer : (fewer others ps : List ℕ) → ((p : ℕ) → In p fewer → In p others) → are_named_once others ps ≡ true → are_named_once fewer ps ≡ true
 once_fewer fewer others [] within once = refl
 once_fewer fewer others (q ∷ qs) within once =
     let parts = and_parts (not (list_any (λ o. q == o) others)) (are_named_once (q ∷ others) qs) once in

@@ -9,6 +9,7 @@ pub mod CommandTells
 pub mod DeclaredLaws
 pub mod DeleteLaws
 mod Examples
+pub mod FillableLaws
 pub mod FitLaws
 pub mod FitStays
 pub mod FreshNames

@@ -63,7 +63,7 @@ module _ (classes : List ClassDef) (class : ClassDef) where
   length_same (Some c) name v e =
       ap (λ bytes. length bytes + zeros_behind (head_length c name + length bytes)) (written_same classes class c v 0 e)
 
-  row_same : (branches : List BranchDef) (row : Row) → is_stored_row classes branches row ≡ true → is_stored_row more branches row ≡ true
+  pub row_same : (branches : List BranchDef) (row : Row) → is_stored_row classes branches row ≡ true → is_stored_row more branches row ≡ true
   row_same branches row e =
       let last = and_parts (row_fits classes branches row && not (has_long_entry classes branches row) && not (list_any is_too_deep row)) (not (list_any has_long_list row)) e in
       let third = and_parts (row_fits classes branches row && not (has_long_entry classes branches row)) (not (list_any is_too_deep row)) last.0 in
@@ -71,7 +71,7 @@ module _ (classes : List ClassDef) (class : ClassDef) where
       let long : has_long_entry more branches row ≡ has_long_entry classes branches row = ap (list_any (λ entry. is_too_long (length entry))) (entries_same branches row [] second.0) in
       and_from _ _ (and_from _ _ (and_from _ _ (columns_more classes class (columns_of branches) row [] second.0) (ap not long ∙ second.1)) third.1) last.1
 
-  rows_same : (branches : List BranchDef) (rows : List Row) → list_all (is_stored_row classes branches) rows ≡ true → list_all (is_stored_row more branches) rows ≡ true
+  pub rows_same : (branches : List BranchDef) (rows : List Row) → list_all (is_stored_row classes branches) rows ≡ true → list_all (is_stored_row more branches) rows ≡ true
   rows_same branches [] e = refl
   rows_same branches (r ∷ rs) e =
       let parts = and_parts (is_stored_row classes branches r) (list_all (is_stored_row classes branches) rs) e in
@@ -89,7 +89,7 @@ module _ (classes : List ClassDef) (class : ClassDef) where
   shape_same (Leaves leaves) e = refl
   shape_same (Objects name) e = ap not (any_more (λ c. bytes_eq c.name name) classes (not-false (is_declared classes name) e))
 
-  shapes_same : (bs : List BranchDef) → list_any (λ b. shape_lacks_class classes b.shape) bs ≡ false → list_any (λ b. shape_lacks_class more b.shape) bs ≡ false
+  pub shapes_same : (bs : List BranchDef) → list_any (λ b. shape_lacks_class classes b.shape) bs ≡ false → list_any (λ b. shape_lacks_class more b.shape) bs ≡ false
   shapes_same [] e = refl
   shapes_same (b ∷ bs) e =
       let parts = or_parts (shape_lacks_class classes b.shape) (list_any (λ b. shape_lacks_class classes b.shape) bs) e in
@@ -138,7 +138,7 @@ object_out m item P all k w e = by (eq_by_cmp item_order k item) (sym (get-remov
     by true f = absurd cc
     by false f = all k w f
 
-tree_put_in : (m : State) (name : List ℕ) (t : Tree) (P : List ℕ → Tree → Type 0) → ((k : List ℕ) (w : Tree) → get m.trees k ≡ Some w → P k w) → P name t
+pub tree_put_in : (m : State) (name : List ℕ) (t : Tree) (P : List ℕ → Tree → Type 0) → ((k : List ℕ) (w : Tree) → get m.trees k ≡ Some w → P k w) → P name t
     → (k : List ℕ) (w : Tree) → get (insert m.trees name t) k ≡ Some w → P k w
 tree_put_in m name t P all new k w e = by (eq_by_cmp name_order k name) refl (sym (get-insert names_total m.trees name t k) ∙ e)
   where
@@ -146,7 +146,7 @@ tree_put_in m name t P all new k w e = by (eq_by_cmp name_order k name) refl (sy
     by true is f = let key = tells_apart names_tie k name is in subst (λ (x : List ℕ). P x w) (sym key) (subst (λ (y : Tree). P name y) (same_Some t w f) new)
     by false is f = all k w f
 
-tree_out : (m : State) (name : List ℕ) (P : List ℕ → Tree → Type 0) → ((k : List ℕ) (w : Tree) → get m.trees k ≡ Some w → P k w)
+pub tree_out : (m : State) (name : List ℕ) (P : List ℕ → Tree → Type 0) → ((k : List ℕ) (w : Tree) → get m.trees k ≡ Some w → P k w)
     → (k : List ℕ) (w : Tree) → get (remove m.trees name) k ≡ Some w → P k w
 tree_out m name P all k w e = by (eq_by_cmp name_order k name) (sym (get-remove names_total m.trees name k) ∙ e)
   where
@@ -179,7 +179,7 @@ item_out m name cycle h = by (names_tree m name)
 -- ---- commands
 
 -- a test of the tree that didn't hold
-not_passed : (p : Tree → Bool) (t : Option Tree) (u : Tree) → t ≡ Some u → option_map_or p t false ≡ false → p u ≡ false
+pub not_passed : (p : Tree → Bool) (t : Option Tree) (u : Tree) → t ≡ Some u → option_map_or p t false ≡ false → p u ≡ false
 not_passed p None u is e = absurd cc
 not_passed p (Some t) u is e = ap p (sym (same_Some t u is)) ∙ e
 
@@ -301,7 +301,7 @@ step_storable m c mark stated s =
 no_object : (item : NameAndCycle) (v : Value) → get empty_state.objects item ≡ Some v → ⊥
 no_object item v e = let h = sym (get-empty item_order item) ∙ e in absurd cc
 
-no_tree : (name : List ℕ) (t : Tree) → get empty_state.trees name ≡ Some t → ⊥
+pub no_tree : (name : List ℕ) (t : Tree) → get empty_state.trees name ≡ Some t → ⊥
 no_tree name t e = let h = sym (get-empty name_order name) ∙ e in absurd cc
 
 empty_storable : IsStorable empty_state

@@ -46,7 +46,35 @@ pub record IsStorable (m : State) : Type 0 where
   pub tree_names : (name : List ℕ) (t : Tree) → get m.trees name ≡ Some t → IsStoredName name t.cycle
   pub trees : (name : List ℕ) (t : Tree) → get m.trees name ≡ Some t → IsStoredTree m.classes t
 
+-- ---- trees that are filled further
+
+-- a name that is none of the class list
+pub record IsTreeName (name : List ℕ) : Type 0 where
+  pub item : is_item_text name ≡ true
+  pub free : is_list_name name ≡ false
+
+-- branches that a line can state, of known classes and not too many, and pending rows that fit them and pass no limit
+pub record IsFillableTree (classes : List ClassDef) (t : Tree) : Type 0 where
+  pub stated : are_stated_branches t.branches ≡ true
+  pub few : has_many_branches t.branches ≡ false
+  pub known : list_any (λ b. shape_lacks_class classes b.shape) t.branches ≡ false
+  pub rows : list_all (is_stored_row classes t.branches) t.pending ≡ true
+
+-- Whatever objects and saved rows another program has written, the trees of the state can be filled and saved.
+pub record IsFillable (m : State) : Type 0 where
+  pub classes : StateClasses m.classes
+  pub apart : AreNamesApart m
+  pub tree_names : (name : List ℕ) (t : Tree) → get m.trees name ≡ Some t → IsTreeName name
+  pub trees : (name : List ℕ) (t : Tree) → get m.trees name ≡ Some t → IsFillableTree m.classes t
+
+-- ---- laws
+
 -- the state of a file that isn't made yet is one, and a command that a script can state leaves a state that a file can hold
 pub record StaysStorable : Type 0 where
   pub empty : IsStorable empty_state
   pub stays : (m : State) (c : Command) (mark : Option FullMark) → is_statable c ≡ true → IsStorable m → IsStorable (step m c mark).state
+
+-- the same of trees that can be filled
+pub record StaysFillable : Type 0 where
+  pub empty : IsFillable empty_state
+  pub stays : (m : State) (c : Command) (mark : Option FullMark) → is_statable c ≡ true → IsFillable m → IsFillable (step m c mark).state

@@ -1,7 +1,7 @@
 //! Laws of steps and of runs.
 ghost use Rattle.rio_step.specs.Laws.{AllStayFit, ClosedHasNonePending, DeletesTakeOne, EachSaysItsReply, FitsStay, LowestIsTold, NamesStayApart, NothingIsLost, PutsAddOne, RefusedChangesNothing, RepliesSaySomething, RunsBeginAlike, RunsEndClosed, RunsHaveStates, SaidInParts, SavedKeepsTheRest, WrittenStays};
 ghost use Rattle.rio_step.specs.Script.{LinesGiveCommands};
-ghost use Rattle.rio_step.specs.Storable.{StaysStorable};
+ghost use Rattle.rio_step.specs.Storable.{StaysFillable, StaysStorable};
 ghost use Rattle.rio_step.specs.Statable.{ClassesStayDeclared, ScriptsAreStatable};
 
 /// Of several refusals that hold the one of the lowest number is told, and none is told where none holds.
@@ -43,6 +43,12 @@ pub fn classes_stay_declared()
 /// can state: names, cycles, classes, objects and trees are as a file has them, and pass no limit.
 pub fn stays_storable()
     ensures { StaysStorable }
+{}
+
+/// If the trees of a state can be filled, whatever else another program has written, so can those of the state after any
+/// command that a script can state.
+pub fn stays_fillable()
+    ensures { StaysFillable }
 {}
 
 /// If no name is that of an object and of a tree, no command makes one so.

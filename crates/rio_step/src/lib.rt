@@ -18,6 +18,6 @@ pub use command_laws::{
 };
 pub use laws::{
     all_stay_fit, classes_stay_declared, each_says_its_reply, lowest_is_told, names_stay_apart,
-    nothing_is_lost, runs_end_closed, runs_have_states, scripts_are_statable, stays_storable,
-    steps_change_one_thing, values_stay,
+    nothing_is_lost, runs_end_closed, runs_have_states, scripts_are_statable, stays_fillable,
+    stays_storable, steps_change_one_thing, values_stay,
 };

@@ -12,14 +12,14 @@ use Rattle.rio_step.specs.{ReplyText.{text_of}, Runs.{first_mark, said_of, saved
 use Rattle.rio_step.specs.Costs.{HasFileRoom, cost_of}
 use Rattle.rio_state.specs.Left.{IsLeftAs}
 use Rattle.rio_session.specs.{Behind.{SaysPart}, Causes.{IsCloseCause, IsSaid, IsSessionCause, NoCountRose, SaysNothing}}
-use Rattle.rio_effect.specs.FileRuns.{FileRun, FileStep, file_run, file_step, marked_before}
+use Rattle.rio_effect.specs.FileRuns.{FileRecords, FileRun, FileStep, file_run, file_step, marked_before}
 use Rattle.rio_effect.proofs.FileRunLaws.{runs_have_parts}
-use Rattle.rio_session.specs.FileSteps.{IsStepTold, RecordsBecome, file_records}
+use Rattle.rio_session.specs.{FileSteps.{IsStepTold, RecordsBecome}, Session.{file_records}}
 use Rattle.rio_session.proofs.Follows.{follows_costs, follows_datime, follows_name, follows_opened}
 use Rattle.rio_session.specs.Session.{IsOpenAs, IsReady, LacksRoomIfFull, LeavesOpenAs, SessionState, StandsFor, Steps, Went, next_of, with_cost}
 use Rattle.rio_session.specs.declared.fault.SessionFault.{SessionFault, TheVariants.{HostFault, SayFault, NoMemory}}
 use Rattle.rio_session.proofs.{Opened.{keeps_own}, Spoken.{grows_none}}
-use Rattle.rootio.specs.{Headline.{IsStopOf, SaidFindRoom, ScriptRun, replies}, Script.{HasDone, session_run}, Writing.{LeavesOpen, StandsUnsaid, file_run_from}}
+use Rattle.rootio.specs.{Headline.{IsStopOf, SaidFindRoom, ScriptRun, replies}, Script.{HasDone, session_file_run, session_run}, Writing.{LeavesOpen, StandsUnsaid}}
 use Rattle.rootio.proofs.{Unclosed.{steps_open}, Untouched.{any_join, becomes_same, elapses_none}}
 use Rattle.rootio.proofs.Room.{CostsSo, all_find_room, costs_more, no_costs, room_at_fault}
 use Rattle.rootio.proofs.RunStops.{IsNext, behind, behind_next, prefix_at, replies_next, step_at, stop_between, stop_within}
@@ -27,33 +27,33 @@ use Rattle.rootio.proofs.RunStops.{IsNext, behind, behind_next, prefix_at, repli
 -- ---- marks
 
 -- what the commands behind the first k do to a file with these records
-abbrev pub run_left : ℕ → List Link → ScriptRun → ℕ → FileRun
-run_left datime links r k = file_run_from datime links (behind r k) (drop k r.commands)
+abbrev pub run_left : ℕ → FileRecords → ScriptRun → ℕ → FileRun
+run_left datime now r k = file_run datime now (behind r k) (drop k r.commands)
 
 -- What is left of the marks belongs to what is left of the commands, on a file of these records, and what is left of the run ends with
 -- the last records.
-pub record MarksLeft (datime : ℕ) (links last : List Link) (r : ScriptRun) (k : ℕ) : Type 0 where
-  pub are : drop k r.marks ≡ (run_left datime links r k).marks
-  pub ends : (run_left datime links r k).records.links ≡ last
+pub record MarksLeft (datime : ℕ) (now last : FileRecords) (r : ScriptRun) (k : ℕ) : Type 0 where
+  pub are : drop k r.marks ≡ (run_left datime now r k).marks
+  pub ends : (run_left datime now r k).records ≡ last
 
 commands_left : (r : ScriptRun) (k : ℕ) (c : Command) → IsNext r k c → drop k r.commands ≡ c ∷ drop (k + 1) r.commands
 commands_left r k c next =
     let e : suc k ≡ k + 1 = omega arith in
     drop-cons r.commands k Ls next.within ∙ ap (λ x. x ∷ drop (suc k) r.commands) next.is ∙ ap (λ n. c ∷ drop n r.commands) e
 
-module _ (datime : ℕ) (links last : List Link) (r : ScriptRun) (k : ℕ) (c : Command) (left : MarksLeft datime links last r k) (next : IsNext r k c) where
+module _ (datime : ℕ) (now last : FileRecords) (r : ScriptRun) (k : ℕ) (c : Command) (left : MarksLeft datime now last r k) (next : IsNext r k c) where
   -- what the next command does to the file
   abbrev next_on_file : FileStep
-  next_on_file = file_step datime (file_records links) (behind r k) c
+  next_on_file = file_step datime now (behind r k) c
 
   -- and the commands behind it
   abbrev others : FileRun
   others = file_run datime next_on_file.records (step (behind r k) c next_on_file.mark).state (drop (k + 1) r.commands)
 
-  parts : run_left datime links r k ≡ marked_before next_on_file.mark others
+  parts : run_left datime now r k ≡ marked_before next_on_file.mark others
   parts =
-      ap (λ (commands : List Command). file_run_from datime links (behind r k) commands) (commands_left r k c next)
-      ∙ runs_have_parts datime (file_records links) (behind r k) c (drop (k + 1) r.commands)
+      ap (λ (commands : List Command). file_run datime now (behind r k) commands) (commands_left r k c next)
+      ∙ runs_have_parts datime now (behind r k) c (drop (k + 1) r.commands)
 
   marks_are : drop k r.marks ≡ next_on_file.mark ∷ others.marks
   marks_are = left.are ∙ ap (λ (x : FileRun). x.marks) parts
@@ -62,29 +62,25 @@ module _ (datime : ℕ) (links last : List Link) (r : ScriptRun) (k : ℕ) (c : 
   pub step_is : step_at r k c ≡ step (behind r k) c next_on_file.mark
   step_is = ap (λ mark. step (behind r k) c mark) (ap first_mark marks_are)
 
-  -- where nothing is put then, the others begin with the records behind it
-  pub marks_next : next_on_file.records ≡ file_records next_on_file.records.links → MarksLeft datime next_on_file.records.links last r (k + 1)
-  marks_next none =
+  -- the others begin with the records behind it
+  pub marks_next : (after : FileRecords) → next_on_file.records ≡ after → MarksLeft datime after last r (k + 1)
+  marks_next after becomes =
       let state : (step (behind r k) c next_on_file.mark).state ≡ behind r (k + 1) = ap (λ (t : Stepped). t.state) (sym step_is) ∙ sym (behind_next r k c next) in
-      let same : others ≡ run_left datime next_on_file.records.links r (k + 1) = λ i. file_run datime (none i) (state i) (drop (k + 1) r.commands) in
+      let same : others ≡ run_left datime after r (k + 1) = λ i. file_run datime (becomes i) (state i) (drop (k + 1) r.commands) in
       record {
         are = sym (drop-drop 1 k r.marks) ∙ ap (drop 1) marks_are ∙ ap (λ (x : FileRun). x.marks) same;
-        ends = ap (λ (x : FileRun). x.records.links) (sym same) ∙ ap (λ (x : FileRun). x.records.links) (sym parts) ∙ left.ends;
+        ends = ap (λ (x : FileRun). x.records) (sym same) ∙ ap (λ (x : FileRun). x.records) (sym parts) ∙ left.ends;
       }
 
 -- the records of a file, after a command
-links_after : (old new : View) (s s1 : SessionState) (m m1 : State) (c : Command) (text text1 : List ℕ) (stands : StandsFor old s m text) (later : StandsFor new s1 m1 text1) → RecordsBecome old new s s1 m c
-    → (file_step s.datime (file_records stands.state.links) m c).records.links ≡ later.state.links
-links_after old new s s1 m m1 c text text1 stands later become =
+records_then : (old new : View) (s s1 : SessionState) (m m1 : State) (c : Command) (text text1 : List ℕ) (stands : StandsFor old s m text) (later : StandsFor new s1 m1 text1) → RecordsBecome old new s s1 m c
+    → (file_step s.datime (file_records s stands.state.links) m c).records ≡ file_records s1 later.state.links
+records_then old new s s1 m m1 c text text1 stands later become =
     let has = become stands.file stands.state.links stands.holds stands.state.chain in
     let file : has.now ≡ later.file = same_Some has.now later.file (sym has.holds ∙ later.holds) in
-    let links = (file_step s.datime (file_records stands.state.links) m c).records.links in
-    chain_one later.file links later.state.links (subst (IsChain links) file has.chain.chain) later.state.chain.chain
-
--- none of them is put then
-none_after : (old new : View) (s s1 : SessionState) (m : State) (c : Command) (text : List ℕ) (stands : StandsFor old s m text) → RecordsBecome old new s s1 m c
-    → let t = file_step s.datime (file_records stands.state.links) m c in t.records ≡ file_records t.records.links
-none_after old new s s1 m c text stands become = (become stands.file stands.state.links stands.holds stands.state.chain).records_are
+    let links = (file_step s.datime (file_records s stands.state.links) m c).records.links in
+    let same : links ≡ later.state.links = chain_one later.file links later.state.links (subst (IsChain links) file has.chain.chain) later.state.chain.chain in
+    λ i. record { links = same i; put = λ name. has.puts_are name i }
 
 -- and the front of the file
 front_after : (old new : View) (s s1 : SessionState) (m m1 : State) (c : Command) (text text1 front : List ℕ) (stands : StandsFor old s m text) (later : StandsFor new s1 m1 text1) → RecordsBecome old new s s1 m c
@@ -95,30 +91,30 @@ front_after old new s s1 m m1 c text text1 front stands later become kept =
     subst (KeepsFront front) file (λ i x low at. has.front i x low (kept i x low at))
 
 -- where no command is left the records are the last ones
-none_left : (datime : ℕ) (links last : List Link) (m : State) (commands : List Command) → commands ≡ [] → (file_run_from datime links m commands).records.links ≡ last → links ≡ last
+none_left : (datime : ℕ) (now last : FileRecords) (m : State) (commands : List Command) → commands ≡ [] → (file_run datime now m commands).records ≡ last → now ≡ last
 unfolding file_run
-none_left datime links last m [] none ends = ends
-none_left datime links last m (c ∷ cs) none ends = absurd cc
+none_left datime now last m [] none ends = ends
+none_left datime now last m (c ∷ cs) none ends = absurd cc
 
 -- ---- one command
 
 -- a run so far: the first k commands are done and their replies said
-pub record Sofar (start v : View) (last : List Link) (front : List ℕ) (first s : SessionState) (r : ScriptRun) (before : List ℕ) (k : ℕ) : Type 0 where
+pub record Sofar (start v : View) (last : FileRecords) (front : List ℕ) (first s : SessionState) (r : ScriptRun) (before : List ℕ) (k : ℕ) : Type 0 where
   pub stands : StandsFor v s (behind r k) (before ++ replies r k)
   pub name : s.name ≡ first.name
   pub datime : s.datime ≡ first.datime
-  pub marks : MarksLeft s.datime stands.state.links last r k
+  pub marks : MarksLeft s.datime (file_records s stands.state.links) last r k
   pub kept : KeepsFront front stands.file
   pub time : (file : List ℕ) → Elapses start v (IsStopOf r file before)
   pub costs : CostsSo first s r k
 
-module _ (r : ScriptRun) (before : List ℕ) (k : ℕ) (c : Command) (next : IsNext r k c) (s : SessionState) (links last : List Link) (left : MarksLeft s.datime links last r k) (told : IsStepTold s (behind r k) c links) where
+module _ (r : ScriptRun) (before : List ℕ) (k : ℕ) (c : Command) (next : IsNext r k c) (s : SessionState) (links : List Link) (last : FileRecords) (left : MarksLeft s.datime (file_records s links) last r k) (told : IsStepTold s (behind r k) c links) where
   -- the session does the run's next step
   abbrev done : Stepped
   done = next_of s (behind r k) c
 
   done_is : step_at r k c ≡ done
-  done_is = step_is s.datime links last r k c left next ∙ told
+  done_is = step_is s.datime (file_records s links) last r k c left next ∙ told
 
   -- what a stop leaves within the command
   pub stops_within : (file image said : List ℕ) → Steps (behind r k) done (before ++ replies r k) image said → IsStopOf r file before image said
@@ -144,17 +140,16 @@ module _ (r : ScriptRun) (before : List ℕ) (k : ℕ) (c : Command) (next : IsN
       ∙ ap (λ l. before ++ l) (sym (replies_next r k c next)) in
       let later : StandsFor new s1 (behind r (k + 1)) (before ++ replies r (k + 1)) =
       subst (λ l. StandsFor new s1 (behind r (k + 1)) l) text (subst (λ m. StandsFor new s1 m ((before ++ replies r k) ++ text_of done.reply)) state went.stands) in
-      let step_on : List Link → FileStep = λ x. file_step s.datime (file_records x) (behind r k) c in
-      let same_links : (step_on links).records.links ≡ later.state.links =
-      ap (λ (x : List Link). (step_on x).records.links) (sym links_are)
-      ∙ links_after v new s s1 (behind r k) (behind r (k + 1)) c (before ++ replies r k) (before ++ replies r (k + 1)) at later become in
-      let none : (step_on links).records ≡ file_records (step_on links).records.links =
-      subst (λ (x : List Link). (step_on x).records ≡ file_records (step_on x).records.links) links_are (none_after v new s s1 (behind r k) c (before ++ replies r k) at become) in
+      let step_on : List Link → FileStep = λ x. file_step s.datime (file_records s x) (behind r k) c in
+      let same : (step_on links).records ≡ file_records s1 later.state.links =
+      ap (λ (x : List Link). (step_on x).records) (sym links_are)
+      ∙ records_then v new s s1 (behind r k) (behind r (k + 1)) c (before ++ replies r k) (before ++ replies r (k + 1)) at later become in
       record {
         stands = later;
         name = follows_name s s1 (behind r k) c went.follows ∙ named;
         datime = follows_datime s s1 (behind r k) c went.follows ∙ soon;
-        marks = subst (λ (x : ℕ × List Link). MarksLeft x.0 x.1 last r (k + 1)) (λ i. (sym (follows_datime s s1 (behind r k) c went.follows) i, same_links i)) (marks_next s.datime links last r k c left next none);
+        marks = subst (λ (x : ℕ). MarksLeft x (file_records s1 later.state.links) last r (k + 1)) (sym (follows_datime s s1 (behind r k) c went.follows))
+            (marks_next s.datime (file_records s links) last r k c left next (file_records s1 later.state.links) same);
         kept = front_after v new s s1 (behind r k) (behind r (k + 1)) c (before ++ replies r k) (before ++ replies r (k + 1)) front at later become kept;
         time = λ file. elapses_join (Steps (behind r k) done (before ++ replies r k)) (time file) went.time (λ i t steps. stops_within file i t steps);
         costs = costs_more first s s1 r k c next costs outcome (follows_opened s s1 (behind r k) c went.follows) (follows_costs s s1 (behind r k) c went.follows)
@@ -181,8 +176,8 @@ module _ (r : ScriptRun) (before : List ℕ) (k : ℕ) (c : Command) (next : IsN
 -- ---- all of them
 
 -- the records after the run
-abbrev pub last_of : SessionState → List Link → State → List Command → List Link
-last_of first links m commands = (file_run_from first.datime links m commands).records.links
+abbrev pub last_of : SessionState → List Link → State → List Command → FileRecords
+last_of first links m commands = (session_file_run first links m commands).records
 
 -- The first k commands are done, and nothing failed.
 pub record Doing (start v : View) (first s : SessionState) (commands : List Command) (k : ℕ) : Type 0 where
@@ -193,7 +188,7 @@ pub record Doing (start v : View) (first s : SessionState) (commands : List Comm
   pub none : NoCountRose start v
   pub sofar : (m : State) (text : List ℕ) (stands : StandsFor start first m text) → Sofar start v (last_of first stands.state.links m commands) stands.file first s (session_run first stands.state.links m commands) text k
 
-start_marks : (first : SessionState) (links : List Link) (m : State) (commands : List Command) → MarksLeft first.datime links (last_of first links m commands) (session_run first links m commands) 0
+start_marks : (first : SessionState) (links : List Link) (m : State) (commands : List Command) → MarksLeft first.datime (file_records first links) (last_of first links m commands) (session_run first links m commands) 0
 unfolding state_after
 start_marks first links m commands = record { are = refl; ends = refl }
 
@@ -222,7 +217,7 @@ nothing_yet v first commands ready fresh = record {
         stands = here;
         name = refl;
         datime = refl;
-        marks = subst (λ (links : List Link). MarksLeft first.datime links (last_of first stands.state.links m commands) r 0) (same_links v first m (behind r 0) text (text ++ replies r 0) stands here) (start_marks first stands.state.links m commands);
+        marks = subst (λ (links : List Link). MarksLeft first.datime (file_records first links) (last_of first stands.state.links m commands) r 0) (same_links v first m (behind r 0) text (text ++ replies r 0) stands here) (start_marks first stands.state.links m commands);
         kept = subst (KeepsFront stands.file) (same_Some stands.file here.file (sym stands.holds ∙ here.holds)) (keeps_own stands.file);
         time = λ file. elapses_none v (IsStopOf r file text);
         costs = no_costs first r;
@@ -306,14 +301,15 @@ all_done start v first s commands k all doing m text stands =
     let r = session_run first stands.state.links m commands in
     let so = doing.sofar m text stands in
     let none : drop k commands ≡ [] = drop_all k commands all in
-    let same : so.stands.state.links ≡ last_of first stands.state.links m commands =
-    none_left s.datime so.stands.state.links (last_of first stands.state.links m commands) (behind r k) (drop k commands) none so.marks.ends in
+    let same : file_records s so.stands.state.links ≡ last_of first stands.state.links m commands =
+    none_left s.datime (file_records s so.stands.state.links) (last_of first stands.state.links m commands) (behind r k) (drop k commands) none so.marks.ends in
     record {
       records = record {
         now = so.stands.file;
         holds = so.stands.holds;
-        chain = subst (λ (l : List Link). HasChain l s.segments so.stands.file) same so.stands.state.chain;
+        chain = subst (λ (x : FileRecords). HasChain x.links s.segments so.stands.file) same so.stands.state.chain;
         front = so.kept;
+        records_are = sym same ∙ ap (λ (x : FileRecords). file_records s x.links) same;
       };
       stands = subst (λ (cs : List Command). StandsFor v s (state_after m cs r.marks) (text ++ said_of m cs r.marks)) (take_all k commands all) so.stands;
       name = so.name;
@@ -332,7 +328,7 @@ cause_of_close start v new (Err HostFault) none cause = (rw (← none.0) cause.0
 cause_of_close start v new (Err SayFault) none cause = absurd cause
 cause_of_close start v new (Err NoMemory) none cause = (cause.0 ∙ none.0, cause.1 ∙ none.1)
 
--- what follows from three clauses where a call succeeds
-pub on_ok_all : {X E P Q R S : Type 0} (r : Result X E) → (P → Q → R → S) → OnOk r P → OnOk r Q → OnOk r R → OnOk r S
-on_ok_all (Ok x) f p q s = f p q s
-on_ok_all (Err e) f p q s = tt
+-- what follows from four clauses where a call succeeds
+pub on_ok_all : {X E P Q R S T : Type 0} (r : Result X E) → (P → Q → R → S → T) → OnOk r P → OnOk r Q → OnOk r R → OnOk r S → OnOk r T
+on_ok_all (Ok x) f p q s t = f p q s t
+on_ok_all (Err e) f p q s t = tt

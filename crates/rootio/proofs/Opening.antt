@@ -23,8 +23,8 @@ use Rattle.rio_session.specs.declared.fault.OpenFault.{OpenFault, TheVariants.{B
 use Rattle.rio_session.specs.declared.fault.SessionFault.{SessionFault, TheVariants.{HostFault, SayFault as NotSaid, NoMemory as OutOfMemory}}
 use Rattle.rio_session.proofs.Spoken.{front_none, grows_none}
 use Rattle.rootio.specs.{Headline.{IsRunDone, IsStopOf, SaidFindRoom, ScriptRun, all_texts}, Reading.{RefusesBroken, TellsFirstFault}}
-use Rattle.rootio.specs.Script.{HasClosed, IsFileCause, RunsWork, StaysOpenBy, status_of_open, status_of_session}
-use Rattle.rootio.specs.Writing.{Beginning, BeginsRun, EndsUnclosed, EndsUnsaid, IsOpenHeader, RefusesFile, RefusesReadOnly, TellsFirstReason, file_run_from, file_run_of, run_of_work, target_of}
+use Rattle.rootio.specs.Script.{HasClosed, IsFileCause, RunsWork, StaysOpenBy, session_closed_records, status_of_open, status_of_session}
+use Rattle.rootio.specs.Writing.{Beginning, BeginsRun, EndsUnclosed, EndsUnsaid, IsOpenHeader, RefusesFile, RefusesReadOnly, TellsFirstReason, records_of, run_of_work, target_of}
 use Rattle.rootio.specs.{declared.status.Status.TheVariants.{Done, BadFile, NoMemory, ReadOnly}, declared.words.Form.TheVariants.{Writes}}
 use Rattle.rootio.specs.declared.words.Work.{Work}
 use Rattle.rootio.proofs.{Room.{silent_room}, SaidFronts.{said_front}, Scripts.{OpensAs, stop_opening}, Unclosed.{ends_unclosed}}
@@ -256,6 +256,8 @@ module _ (work : Work) (input : List ℕ) (v0 v1 v2 : View) (s : SessionState) (
     (why : Told v0 (λ file. TellsWhyNot file {X = SessionState} (Ok s)))
     (told01 : Becomes Any v0.holds v1.holds) (said01 : v1.said ≡ v0.said) (none : NoCountRose v0 v1)
     (its : (b : Beginning) → BeginsRun work b v0 → b.input ≡ input → (st : StandsFor v1 s b.state b.text) → st.state.links ≡ b.links → run st.state.links b.state ≡ run_of_work work b)
+    (leaves : (b : Beginning) → BeginsRun work b v0 → b.input ≡ input → (st : StandsFor v1 s b.state b.text) → st.state.links ≡ b.links
+    → let r = run st.state.links b.state in session_closed_records s st.state.links r.start r.commands ≡ records_of work b)
     (stops : (file text : List ℕ) (m : State) (st : StandsFor v1 s m text) → Elapses v1 v2 (IsStopOf (run st.state.links m) file text))
     (done : OnOk r ((m : State) (text : List ℕ) (st : StandsFor v1 s m text) → HasClosed (run st.state.links m) st.state.links st.file s text v2))
     (unclosed : (m : State) (text : List ℕ) (st : StandsFor v1 s m text) → StaysOpenBy (EndsUnsaid work) (run st.state.links m) text v2 r)
@@ -282,10 +284,10 @@ module _ (work : Work) (input : List ℕ) (v0 v1 v2 : View) (s : SessionState) (
 
     -- the records that it leaves are those of the run of the words
     abbrev records_there : List Link
-    records_there = let from = run st.state.links b.state in (file_run_from s.datime st.state.links from.start from.commands).records.links
+    records_there = let from = run st.state.links b.state in session_closed_records s st.state.links from.start from.commands
 
-    records_are : records_there ≡ (file_run_of work b).records.links
-    records_are = λ i. (file_run_from (begun.datime_is i) (links_are i) (its_run i).start (its_run i).commands).records.links
+    records_are : records_there ≡ records_of work b
+    records_are = leaves b begins is st links_are
 
     opened_is : s.opened ≡ opening_length b.file
     opened_is = (found work v0 v1 s stands on b begins).opened

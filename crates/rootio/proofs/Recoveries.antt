@@ -9,14 +9,14 @@ use Rattle.rio_machine.specs.{State.{State}, declared.command.Command.{Command}}
 use Rattle.rio_step.specs.Runs.{closed_of, said_of, saved_of, state_after, states_of_run}
 use Rattle.rio_state.specs.{DirectoryKeys.{AreKeysOf}, KeyedRecords.{keyed_records}, Left.{IsLeftAs}, Reads.{ReadsAsState, ReadsClosed}}
 use Rattle.std.specs.List.{slice_get}
-use Rattle.rio_effect.specs.FileRuns.{file_run}
-use Rattle.rio_session.specs.{Causes.{IsCloseCause, IsSessionCause, NoCountRose}, Closes.{ClosesFile, IsWellClosed}, Opening.{IsBegun}}
-use Rattle.rio_session.specs.Session.{ClosesAs, IsReady, SessionState, StandsFor}
+use Rattle.rio_effect.specs.FileRuns.{file_run, saved_records}
+use Rattle.rio_session.specs.{Causes.{IsCloseCause, IsSessionCause, NoCountRose}, Closes.{AreSavesTold, ClosesFile, IsWellClosed}, Fillings.{closing}, Kept.{all_done}, Opening.{IsBegun}}
+use Rattle.rio_session.specs.Session.{ClosesAs, IsReady, SessionState, StandsFor, file_records}
 use Rattle.rio_session.specs.declared.fault.SessionFault.{SessionFault, TheVariants.{HostFault, SayFault, NoMemory}}
 use Rattle.rio_session.proofs.{CloseStates.{holds_closed_file}, Opened.{keeps_own, reads_open}, Spoken.{front_part, grows_none, grows_whole}}
-use Rattle.rootio.specs.{Headline.{AllFindRoom, IsStopOf, SaidFindRoom, ScriptRun, all_replies, all_texts, end_state}, Script.{ClosesAndSays, listing_run}}
-use Rattle.rootio.specs.{Target.{TargetFile}, Writing.{Beginning, BeginsRun, StandsClosed, file_run_from, run_of_work}, declared.words.Work.TheVariants.{Recover}}
-use Rattle.rootio.proofs.{OrderedKeys.{keys_one}, RunStops.{stop_closing}, Unclosed.{close_open, stands_open}, Untouched.{becomes_same, elapses_none}}
+use Rattle.rootio.specs.{Headline.{AllFindRoom, IsStopOf, SaidFindRoom, ScriptRun, all_replies, all_texts, end_state}, Script.{ClosesAndSays, listing_run, session_closed_records}}
+use Rattle.rootio.specs.{Target.{TargetFile}, Writing.{Beginning, BeginsRun, StandsClosed, records_of, run_of_work, without_pending}, declared.words.Work.TheVariants.{Recover}}
+use Rattle.rootio.proofs.{Idle.{none_saved, nothing_left, records_idle}, OrderedKeys.{keys_one}, Scripts.{saved_start}, RunStops.{stop_closing}, Unclosed.{close_open, stands_open}, Untouched.{becomes_same, elapses_none}}
 
 abbrev some_text : List ℕ → Option (List ℕ)
 some_text l = Some l
@@ -40,9 +40,9 @@ module _ (s : SessionState) (lines : List ℕ) (links : List Link) (m : State) w
   unfolding state_after
   end_is = refl
 
-  -- it leaves the records as they are
-  records_are : (file_run_from s.datime links m []).records.links ≡ links
-  unfolding file_run
+  -- it leaves the records that the saves of the close leave
+  records_are : session_closed_records s links m [] ≡ (saved_records s.datime (file_records s links) m).links
+  unfolding file_run state_after
   records_are = refl
 
   -- while it is closed
@@ -107,8 +107,8 @@ no_lines v s lines ready = record {
 
 module _ (v1 v2 : View) (s : SessionState) (lines : List ℕ) (ready : IsReady v1 s) (law1 : IsLawful v1) (law2 : IsLawful v2)
     (time : (m : State) (text : List ℕ) → StandsFor v1 s m text → Elapses v1 v2 (ClosesAs m text)) (told : Becomes Any v1.holds v2.holds) (same : v2.said ≡ v1.said) where
-  closing : (file text : List ℕ) (m : State) (stands : StandsFor v1 s m text) → Elapses v1 v2 (IsStopOf (listing_run s lines stands.state.links m) file text)
-  closing file text m stands =
+  closed_stops : (file text : List ℕ) (m : State) (stands : StandsFor v1 s m text) → Elapses v1 v2 (IsStopOf (listing_run s lines stands.state.links m) file text)
+  closed_stops file text m stands =
       elapses_as (IsStopOf (listing_run s lines stands.state.links m) file text) (ClosesAs m text) (time m text stands)
       (λ image said closes. stop_within_close s lines stands.state.links m file text image said closes)
 
@@ -121,7 +121,7 @@ module _ (v1 v2 : View) (s : SessionState) (lines : List ℕ) (ready : IsReady v
   -- the close failed
   pub not_closed : (e : SessionFault) → (◌≡◌ {A = Result (Unit {0}) SessionFault} (Err e) (Err NoMemory) → OnlyReads v1 v2) → IsCloseCause {X = Unit {0}} v1 v2 (Err e) → ClosesAndSays v1 v2 s lines (Err e)
   not_closed e only cause = record {
-    stops = closing;
+    stops = closed_stops;
     done = tt;
     unclosed = λ m text stands.
         let r = listing_run s lines stands.state.links m in
@@ -135,6 +135,7 @@ module _ (v1 v2 : View) (s : SessionState) (lines : List ℕ) (ready : IsReady v
   module _ (v3 : View) (law3 : IsLawful v3) (quiet : IsQuiet v2)
       (closed : (m : State) (text : List ℕ) → StandsFor v1 s m text → (image said : List ℕ) → Leaves v2 image said → ReadsAsState image (closed_of m) × ReadsClosed image (closed_of m))
       (written : (m : State) (text : List ℕ) → StandsFor v1 s m text → ClosesFile v1 v2 s)
+      (saves : (m : State) (text : List ℕ) (stands : StandsFor v1 s m text) → AreSavesTold s m stands.state.links)
       (none : NoCountRose v1 v2) (speaks : Elapses v2 v3 (Speaking lines v2)) (holds : v3.holds ≡ v2.holds) (disk : v3.disk_faults ≡ v2.disk_faults) where
     -- what is left is what the close left
     left_closed : (image said : List ℕ) → Leaves v3 image said → (before : List ℕ) × Leaves v2 image before
@@ -142,7 +143,7 @@ module _ (v1 v2 : View) (s : SessionState) (lines : List ℕ) (ready : IsReady v
 
     saying : (file text : List ℕ) (m : State) (stands : StandsFor v1 s m text) → Elapses v1 v3 (IsStopOf (listing_run s lines stands.state.links m) file text)
     saying file text m stands =
-        elapses_join (Speaking lines v2) (closing file text m stands) speaks
+        elapses_join (Speaking lines v2) (closed_stops file text m stands) speaks
         (λ image said spoken.
         let closes : ClosesAs m text image spoken.0 =
         ⊎_elim (λ was. closes_none m text v1 s ready law1 stands image spoken.0 was) (λ now. now) (leaves_back law2 (time m text stands) image spoken.0 spoken.1) in
@@ -154,7 +155,8 @@ module _ (v1 v2 : View) (s : SessionState) (lines : List ℕ) (ready : IsReady v
         let was = left_closed image said left in
         subst (λ (x : State). ReadsAsState image x × ReadsClosed image x) (sym (end_is s lines stands.state.links m)) (closed m text stands image was.0 was.1)
 
-    well_closed : (m : State) (text : List ℕ) (stands : StandsFor v1 s m text) → (image said : List ℕ) → Leaves v3 image said → IsWellClosed s.name s.datime stands.file stands.state.links image
+    well_closed : (m : State) (text : List ℕ) (stands : StandsFor v1 s m text) → (image said : List ℕ) → Leaves v3 image said
+        → IsWellClosed s.name s.datime stands.file (saved_records s.datime (file_records s stands.state.links) m).links image
     well_closed m text stands image said left =
         let was = left_closed image said left in
         let closes : ClosesFile v1 v2 s = written m text stands in
@@ -163,7 +165,8 @@ module _ (v1 v2 : View) (s : SessionState) (lines : List ℕ) (ready : IsReady v
         let links : closes.links ≡ stands.state.links =
         chain_one closes.file closes.links stands.state.links closes.chain.chain (subst (IsChain stands.state.links) file stands.state.chain.chain) in
         let last = holds_closed_file v1 v2 s stands.file image closes (subst (KeepsFront stands.file) file (keeps_own stands.file)) (closes.written.holds ∙ ap some_text (sym image_is)) in
-        subst (λ (x : List Link). IsWellClosed s.name s.datime stands.file x image) links last
+        let then_links = ap (λ (l : List Link). all_done (closing s).changes l) links ∙ saves m text stands in
+        subst (λ (x : List Link). IsWellClosed s.name s.datime stands.file x image) then_links last
 
     told_all : Becomes Any v1.holds v3.holds
     told_all = subst (Becomes Any v1.holds) (sym holds) told
@@ -215,11 +218,22 @@ listing_there s links m = listing_run s (key_lines s.heads) links m
 pub listing_finds_room : (s : SessionState) (links : List Link) (m : State) (text : List ℕ) (v : View) → SaidFindRoom (listing_there s links m) text v
 listing_finds_room s links m text v said told k c there long = finds_room s (key_lines s.heads) links m k c there
 
--- a session that began with the run's records does the run of the words
-pub its_listing : (target : TargetFile) (v0 v1 : View) (s : SessionState) → IsBegun target.datime s
-    → (b : Beginning) → BeginsRun (Recover target) b v0 → b.input ≡ [] → (st : StandsFor v1 s b.state b.text) → st.state.links ≡ b.links
-    → listing_there s st.state.links b.state ≡ run_of_work (Recover target) b
-its_listing target v0 v1 s begun b begins is st links =
-    let heads : s.heads ≡ begins.listing.0 = keys_one (keyed_records b.links) s.heads begins.listing.0 (subst (λ (l : List Link). AreKeysOf (keyed_records l) s.heads) links st.state.keys) begins.listing.1 in
-    let lines : key_lines s.heads ≡ b.listing = ap key_lines heads ∙ sym begins.listing.2 in
-    λ i. record { start = b.state; commands = []; marks = (file_run_from (begun.datime_is i) (links i) b.state []).marks; listing = lines i }
+module _ (target : TargetFile) (v0 v1 : View) (s : SessionState) (begun : IsBegun target.datime s) (b : Beginning) (begins : BeginsRun (Recover target) b v0) (is : b.input ≡ [])
+    (st : StandsFor v1 s b.state b.text) (links : st.state.links ≡ b.links) where
+  saved : saved_of b.state ≡ b.state
+  saved = saved_start b.file b.state begins.reads
+
+  -- no row was pending
+  idle : file_records s st.state.links ≡ without_pending b.links
+  idle = records_idle s b.state st.file st.state saved ∙ ap without_pending links
+
+  -- a session that began with the run's records does the run of the words
+  pub its_listing : listing_there s st.state.links b.state ≡ run_of_work (Recover target) b
+  its_listing =
+      let heads : s.heads ≡ begins.listing.0 = keys_one (keyed_records b.links) s.heads begins.listing.0 (subst (λ (l : List Link). AreKeysOf (keyed_records l) s.heads) links st.state.keys) begins.listing.1 in
+      let lines : key_lines s.heads ≡ b.listing = ap key_lines heads ∙ sym begins.listing.2 in
+      λ i. record { start = b.state; commands = []; marks = (file_run (begun.datime_is i) (idle i) b.state []).marks; listing = lines i }
+
+  -- and leaves its records
+  pub its_records : session_closed_records s st.state.links b.state [] ≡ records_of (Recover target) b
+  its_records = nothing_left s.datime (file_records s st.state.links) b.state (none_saved s b.state st.file st.state saved) ∙ links

@@ -9,15 +9,15 @@ use Rattle.rio_host.specs.Host.{View}
 use Rattle.rio_chain.specs.Segments.{Link}
 use Rattle.rio_tree.specs.declared.head.TreeHead.{TreeHead}
 use Rattle.rio_machine.specs.{State.{Row, State, empty_state}, declared.command.Command.{Command}}
-use Rattle.rio_cmd.specs.Built.{built_script}
-use Rattle.rio_session.specs.{Opening.{IsBegun}, Session.{SessionState, StandsFor}}
+use Rattle.rio_effect.specs.FileRuns.{file_run}
+use Rattle.rio_session.specs.{Opening.{IsBegun}, Session.{SessionState, StandsFor, file_records}}
 use Rattle.rio_step.proofs.{ClosedLaws.{saved_keeps_the_rest}, RunLaws.{runs_begin_alike}}
-use Rattle.rio_step.specs.Runs.{said_of, saved_of, saved_tree, state_after}
+use Rattle.rio_step.specs.{Runs.{said_of, saved_of, saved_tree, state_after}, Script.{script_of}}
 use Rattle.rio_state.specs.{KeyedRecords.{KeyedRecord, record_at}, Left.{ReadsClosedUnlessOpen}, Reads.{ReadsAsMade, ReadsAsState}}
 use Rattle.rio_state.specs.Trees.{TreesBeside, all_places_named, are_named_once, basket_places, header_in, records_before, saved_rows, saved_tree as read_tree, tree_by, tree_of, tree_under}
-use Rattle.rootio.specs.{Headline.{HoldsPrefix, IsStopOf, ScriptRun, replies}, Script.{session_run}, Target.{TargetFile}, Writing.{Beginning, BeginsRun, file_run_from, run_of_work}}
+use Rattle.rootio.specs.{Headline.{HoldsPrefix, IsStopOf, ScriptRun, replies}, Script.{session_closed_records, session_run}, Target.{TargetFile}, Writing.{Beginning, BeginsRun, closed_records, without_pending, records_of, run_of_work}}
 use Rattle.rootio.specs.declared.words.Work.TheVariants.{Run}
-use Rattle.rootio.proofs.RunStops.{behind, stop_between}
+use Rattle.rootio.proofs.{Idle.{records_idle}, RunStops.{behind, stop_between}}
 
 -- ---- the state at the start has no pending rows
 
@@ -92,10 +92,19 @@ stop_opening r file text image said reads opens =
 abbrev pub run_there : SessionState → List Command → List Link → State → ScriptRun
 run_there s commands links m = session_run s links m commands
 
--- a session that began with the run's records does the run of the words
-pub its_run : (target : TargetFile) (script : List ℕ) (v0 v1 : View) (s : SessionState) (commands : List Command) → IsBegun target.datime s → commands ≡ built_script script
-    → (b : Beginning) → BeginsRun (Run target) b v0 → b.input ≡ script → (st : StandsFor v1 s b.state b.text) → st.state.links ≡ b.links
-    → run_there s commands st.state.links b.state ≡ run_of_work (Run target) b
-its_run target script v0 v1 s commands begun are b begins is st links =
-    let all : commands ≡ built_script b.input = are ∙ ap built_script (sym is) in
-    λ i. record { start = b.state; commands = all i; marks = (file_run_from (begun.datime_is i) (links i) b.state (all i)).marks; listing = sym begins.listing i }
+module _ (target : TargetFile) (script : List ℕ) (v0 v1 : View) (s : SessionState) (commands : List Command) (begun : IsBegun target.datime s) (are : commands ≡ script_of script)
+    (b : Beginning) (begins : BeginsRun (Run target) b v0) (is : b.input ≡ script) (st : StandsFor v1 s b.state b.text) (links : st.state.links ≡ b.links) where
+  all : commands ≡ script_of b.input
+  all = are ∙ ap script_of (sym is)
+
+  -- no row was pending
+  idle : file_records s st.state.links ≡ without_pending b.links
+  idle = records_idle s b.state st.file st.state (saved_start b.file b.state begins.reads) ∙ ap without_pending links
+
+  -- a session that began with the run's records does the run of the words
+  pub its_run : run_there s commands st.state.links b.state ≡ run_of_work (Run target) b
+  its_run = λ i. record { start = b.state; commands = all i; marks = (file_run (begun.datime_is i) (idle i) b.state (all i)).marks; listing = sym begins.listing i }
+
+  -- and leaves its records
+  pub its_records : session_closed_records s st.state.links b.state commands ≡ records_of (Run target) b
+  its_records = λ i. closed_records (begun.datime_is i) (idle i) b.state (all i)

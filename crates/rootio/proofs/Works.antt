@@ -7,7 +7,7 @@ use Rattle.rio_host.proofs.{Images.{becomes_some}, ReadsLaws.{reads_none}}
 use Rattle.rio_state.specs.Reasons.{ReasonAt}
 use Rattle.rootio.specs.{Causes.{IsCause, NoInputFault}, Headline.{IsStopOf, ScriptRun, all_texts}}
 use Rattle.rootio.specs.{Input.{EndsWithInput, IsPastInput, ReadsAll, RefusesTooLong, TakenAll, TellsTooLong, status_of_input}, Reading.{TellsUnlessCut}}
-use Rattle.rootio.specs.{Script.{IsFileCause, RunsWork, WorksOn}, Target.{TargetFile}, Writing.{Beginning, BeginsRun, EndsUnclosed, RefusesFile, TellsReasonUnlessCut, file_run_of, run_of_work}}
+use Rattle.rootio.specs.{Script.{IsFileCause, RunsWork, WorksOn}, Target.{TargetFile}, Writing.{Beginning, BeginsRun, EndsUnclosed, RefusesFile, TellsReasonUnlessCut, records_of, run_of_work}}
 use Rattle.rootio.specs.declared.input.InputError.{InputError, TheVariants.{Fault, NoMemory as OutOfMemory, TooLong}}
 use Rattle.rootio.specs.declared.status.Status.{Status, TheVariants.{Done, Usage, BadFile, DiskFault, InputFault, NoMemory, InputTooLong, ReadOnly, SayFault}}
 use Rattle.rootio.specs.{declared.words.Form.TheVariants.{Writes}, declared.words.Work.{Work, TheVariants.{Run, Recover}}}
@@ -116,7 +116,7 @@ with_none target old new input status ran = record {
       done = λ b begins here ended. ran.done b begins here ended;
       written = λ b begins ended.
           let w = ran.written (with_text b []) (begins_with (Recover target) b [] old begins) refl ended in
-          ((file_run_of (Recover target) (with_text b [])).records.links, record { header = w.header; header_is = w.header_is; left = w.left });
+          (records_of (Recover target) (with_text b []), record { header = w.header; header_is = w.header_is; left = w.left });
       records = λ b begins here ended. ran.written b begins here ended;
       unclosed = λ b begins here. ran.unclosed b begins here;
       input = λ all takes here past. absurd cc;
@@ -148,7 +148,7 @@ with_input target old new before after text status read ran =
           done = λ b begins here ended. ran.done b begins (told b.input here).2.0 ended;
           written = λ b begins ended.
               let w = ran.written (with_text b text.bytes) (begins_with (Run target) b text.bytes old begins) refl ended in
-              ((file_run_of (Run target) (with_text b text.bytes)).records.links, record { header = w.header; header_is = w.header_is; left = w.left });
+              (records_of (Run target) (with_text b text.bytes), record { header = w.header; header_is = w.header_is; left = w.left });
           records = λ b begins here ended. ran.written b begins (told b.input here).2.0 ended;
           unclosed = λ b begins here. ran.unclosed b begins (told b.input here).2.0;
           input = λ input takes here past. let rest = told input here in rest.1 ∙ ap Some rest.2.1;

@@ -8,48 +8,58 @@ use Rattle.rio_machine.specs.{State.{State}, declared.command.Command.{Command}}
 use Rattle.rio_step.specs.{Costs.{HasFileRoom}, Runs.{state_after}}
 use Rattle.rio_state.specs.Reads.{ReadsAsState, ReadsClosed}
 use Rattle.rio_chain.specs.{Chains.{HasChain}, Segments.{Link}, Stops.{KeepsFront}}
-use Rattle.rio_effect.specs.FileRuns.{FileRun}
-use Rattle.rio_session.specs.{Behind.{SaysPart}, Causes.{IsSessionCause}, Closes.{IsWellClosed}, Opening.{opening_length}, Session.{SessionState, StandsFor}}
+use Rattle.rio_effect.specs.FileRuns.{FileRun, file_run}
+use Rattle.rio_session.specs.{Behind.{SaysPart}, Causes.{IsSessionCause}, Closes.{IsWellClosed}, Opening.{opening_length}, Session.{SessionState, StandsFor, file_records}}
 use Rattle.rio_session.specs.declared.fault.OpenFault.{OpenFault, TheVariants.{BadFile as FileBad, ReadOnly as FileReadOnly, NoMemory as NotRoomy, HostFault as NotOpened}}
 use Rattle.rio_session.specs.declared.fault.SessionFault.{SessionFault, TheVariants.{HostFault, SayFault as NotSaid, NoMemory as OutOfMemory}}
 use Rattle.rootio.specs.{Causes.{IsCause}, Input.{RefusesTooLong, TellsTooLong}}
 use Rattle.rootio.specs.Headline.{AllFindRoom, IsRunDone, IsStopOf, SaidFindRoom, ScriptRun, all_replies, all_texts, end_state}
 use Rattle.rootio.specs.Reading.{RefusesBroken, TellsFirstFault}
-use Rattle.rootio.specs.Writing.{Beginning, BeginsRun, EndsUnclosed, EndsWriting, LeavesOpen, LeavesRun, RefusesReadOnly, SparesRefused, StandsClosed, TellsFirstReason, file_run_from, run_of_work}
+use Rattle.rootio.specs.Writing.{Beginning, BeginsRun, EndsUnclosed, EndsWriting, LeavesOpen, LeavesRun, RefusesReadOnly, SparesRefused, StandsClosed, TellsFirstReason, closed_records, run_of_work}
 use Rattle.rootio.specs.declared.status.Status.{Status, TheVariants.{Done, Usage, BadFile, DiskFault, InputFault, NoMemory, InputTooLong, ReadOnly, SayFault}}
 use Rattle.rootio.specs.{declared.words.Form.TheVariants.{Writes}, declared.words.Work.{Work}}
 
+-- what these commands do to the file of a session that has these records
+abbrev pub session_file_run : SessionState → List Link → State → List Command → FileRun
+session_file_run s links m commands = file_run s.datime (file_records s links) m commands
+
+-- the records behind them and the saves of the close
+abbrev pub session_closed_records : SessionState → List Link → State → List Command → List Link
+session_closed_records s links m commands = closed_records s.datime (file_records s links) m commands
+
 -- the run of these commands from a session on, whose file has these records
 abbrev pub session_run : SessionState → List Link → State → List Command → ScriptRun
-session_run s links m commands = record { start = m; commands = commands; marks = (file_run_from s.datime links m commands).marks; listing = [] }
+session_run s links m commands = record { start = m; commands = commands; marks = (session_file_run s links m commands).marks; listing = [] }
 
 -- the run of these commands from where a session stands
 abbrev pub run_from : {v : View} {s : SessionState} {m : State} {text : List ℕ} → StandsFor v s m text → List Command → ScriptRun
 run_from {s = s} {m = m} stands commands = session_run s stands.state.links m commands
 
--- The file has the records that this run on files leaves, each at its place and with its bytes, and its first 100 bytes are as before it.
+-- The file has the records that this run on files leaves, each at its place and with its bytes; the session keeps which of them are baskets
+-- of pending rows. The first 100 bytes are as before the run.
 pub record HasRecords (run : FileRun) (file : List ℕ) (s : SessionState) (new : View) : Type 0 where
   pub now : List ℕ
   pub holds : new.holds ≡ Some now
   pub chain : HasChain run.records.links s.segments now
   pub front : KeepsFront file now
+  pub records_are : run.records ≡ file_records s run.records.links
 
 -- All commands were done on this file with these records, and all replies said; where the costs leave room, none was want of room.
 pub record HasDone (r : ScriptRun) (links : List Link) (file : List ℕ) (first s : SessionState) (before : List ℕ) (new : View) : Type 0 where
-  pub records : HasRecords (file_run_from first.datime links r.start r.commands) file s new
+  pub records : HasRecords (session_file_run first links r.start r.commands) file s new
   pub stands : StandsFor new s (state_after r.start r.commands r.marks) (before ++ all_replies r)
   pub name : s.name ≡ first.name
   pub datime : s.datime ≡ first.datime
   pub room : first.costs ≡ 0 → HasFileRoom first.opened r.start r.commands r.marks → AllFindRoom r
 
 -- All commands were done on this file with these records, all was said, and the file was closed, without garbage, with the records of
--- the run.
+-- the run and of the saves of its close.
 pub record HasClosed (r : ScriptRun) (links : List Link) (file : List ℕ) (first : SessionState) (before : List ℕ) (new : View) : Type 0 where
   pub quiet : IsQuiet new
   pub said : new.said ≡ Some (before ++ all_texts r)
   pub left : (image said : List ℕ) → Leaves new image said → ReadsAsState image (end_state r) × ReadsClosed image (end_state r)
   pub written : (image said : List ℕ) → Leaves new image said
-      → IsWellClosed first.name first.datime file (file_run_from first.datime links r.start r.commands).records.links image
+      → IsWellClosed first.name first.datime file (session_closed_records first links r.start r.commands) image
   pub room : first.costs ≡ 0 → HasFileRoom first.opened r.start r.commands r.marks → AllFindRoom r
 
 -- A session that ended without a close, as it does where it finds no memory, can't say a text or its disk fails, leaves a file
@@ -62,7 +72,7 @@ StaysOpenBy unsaid r before new (Err OutOfMemory) = LeavesOpen new
 
 -- the run of no command from a session on, with these lines said after the close
 abbrev pub listing_run : SessionState → List ℕ → List Link → State → ScriptRun
-listing_run s lines links m = record { start = m; commands = []; marks = (file_run_from s.datime links m []).marks; listing = lines }
+listing_run s lines links m = record { start = m; commands = []; marks = (session_file_run s links m []).marks; listing = lines }
 
 -- An open file is closed, and then these lines are said.
 pub record ClosesAndSays (old new : View) (s : SessionState) (lines : List ℕ) (result : Result (Unit {0}) SessionFault) : Type 0 where

@@ -5,14 +5,13 @@ use Rattle.rio_host.specs.{Host.{Any, Becomes, Elapses, IsQuiet, Leaves, View}, 
 use Rattle.rio_key.specs.declared.head.KeyHead.{KeyHead}
 use Rattle.rio_dir.specs.{Listing.{key_lines}, Unborn.{header_fault, is_unborn}}
 use Rattle.rio_machine.specs.{State.{State}, declared.command.Command.{Command}}
-use Rattle.rio_cmd.specs.Built.{built_script}
 use Rattle.rio_state.specs.{Closing.{name_in}, DirectoryKeys.{AreKeysOf}, KeyedRecords.{keyed_records}, Left.{IsMarkedOpen, open_end}, Reads.{ReadsAsState, ReadsClosed}, Reasons.{IsFirstReason, ReasonAt, reason_at}}
-use Rattle.rio_step.specs.{Costs.{HasFileRoom}, ReplyText.{text_of}, Runs.{saved_of}}
+use Rattle.rio_step.specs.{Costs.{HasFileRoom}, ReplyText.{text_of}, Runs.{saved_of, state_after}, Script.{script_of}}
 use Rattle.rio_chain.specs.Segments.{Link}
 use Rattle.rio_close.specs.EndWord.{SaysEnd}
-use Rattle.rio_effect.specs.FileRuns.{FileRun, file_run}
+use Rattle.rio_effect.specs.FileRuns.{FileRecords, FileRun, file_run, none_put, saved_records}
 use Rattle.rio_create.specs.NewFile.{new_file}
-use Rattle.rio_session.specs.{Behind.{SaysPart}, Closes.{IsWellClosed}, FileSteps.{file_records}, Opening.{LeavesFileOrUnclosed, OpensWith, SparesFile, opening_length}}
+use Rattle.rio_session.specs.{Behind.{SaysPart}, Closes.{IsWellClosed}, Opening.{LeavesFileOrUnclosed, OpensWith, SparesFile, opening_length}}
 use Rattle.rootio.specs.{Headline.{IsRunDone, IsStopOf, SaidFindRoom, ScriptRun, all_replies, all_texts, end_state, replies, reply_at, states}, Input.{IsPastInput}}
 use Rattle.rootio.specs.{Reading.{takes_script}, Target.{TargetFile}}
 use Rattle.rootio.specs.declared.status.Status.{Status, TheVariants.{Done, Usage, BadFile, DiskFault, InputFault, NoMemory, InputTooLong, ReadOnly, SayFault}}
@@ -119,7 +118,7 @@ target_of (Recover target) = target
 
 -- the commands that it does, by its input
 abbrev pub commands_of : Work → List ℕ → List Command
-commands_of (Run target) input = built_script input
+commands_of (Run target) input = script_of input
 commands_of (Recover target) input = []
 
 -- the lines that ls prints for the keys of the objects and trees among these records
@@ -146,9 +145,18 @@ pub record Beginning : Type 0 where
   pub state : State
   pub listing : List ℕ
 
+-- these records, none of which is a basket of pending rows
+abbrev pub without_pending : List Link → FileRecords
+without_pending links = record { links = links; put = none_put }
+
 -- what commands do at this time to a file that has just these records
 abbrev pub file_run_from : ℕ → List Link → State → List Command → FileRun
-file_run_from datime links m commands = file_run datime (file_records links) m commands
+file_run_from datime links m commands = file_run datime (without_pending links) m commands
+
+-- the records behind commands and the saves of the close
+abbrev pub closed_records : ℕ → FileRecords → State → List Command → List Link
+closed_records datime now m commands =
+    let run = file_run datime now m commands in (saved_records datime run.records (state_after m commands run.marks)).links
 
 -- and what those of a verb do
 abbrev pub file_run_of : Work → Beginning → FileRun
@@ -170,9 +178,14 @@ pub record LeavesClosed (work : Work) (b : Beginning) (links : List Link) (v : V
   pub left : (image said : List ℕ) → Leaves v image said
       → IsWellClosed (name_in (keyed_records b.links)) (target_of work).datime header links image
 
+-- the records that a verb leaves: behind the commands of a script and the saves of its close; a recovery leaves those that it begins with
+abbrev pub records_of : Work → Beginning → List Link
+records_of (Run target) b = closed_records target.datime (without_pending b.links) b.state (script_of b.input)
+records_of (Recover target) b = b.links
+
 -- They are the records of the run, each at its place and with its bytes.
 abbrev pub LeavesRun : Work → Beginning → View → Type 0
-LeavesRun work b new = LeavesClosed work b (file_run_of work b).records.links new
+LeavesRun work b new = LeavesClosed work b (records_of work b) new
 
 -- nothing was written and no call looked at the file
 abbrev pub IsUntouched : View → View → Type 0

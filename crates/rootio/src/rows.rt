@@ -23,6 +23,7 @@ mod runs;
 mod scan;
 mod scan_versions;
 mod stops;
+mod trees;
 mod undone;
 mod usage;
 mod versions;

@@ -6,7 +6,6 @@ ghost use Rattle.rio_host.specs.OnlyReads.{Grown};
 ghost use Rattle.rio_machine.specs.State.{State};
 ghost use Rattle.rio_step.specs.Costs.{HasFileRoom};
 ghost use Rattle.rio_step.specs.Statable.{is_statable};
-ghost use Rattle.rio_cmd.specs.Laws.{is_built};
 ghost use Rattle.rio_session.specs.Causes.{IsSessionCause};
 ghost use Rattle.rio_session.specs.Session.{IsReady, StandsFor};
 ghost use Rattle.rio_session.specs.declared.fault.SessionFault.{SessionFault as Fault};
@@ -17,11 +16,12 @@ ghost use Rattle.rootio.specs.declared.words.Work.{Work};
 
 use crate::status::Status;
 use crate::target::Target;
-use rio_cmd::{built_scripts_are_statable, read_script};
+use rio_cmd::read_script;
 use rio_host::Host;
 use rio_machine::Command;
 use rio_num::NoMemory;
 use rio_session::{OpenFault, Session, SessionFault};
+use rio_step::scripts_are_statable;
 use std::alloc::Global;
 
 // Does the commands, one after the other. A fault ends it where it comes.
@@ -31,7 +31,6 @@ fn do_commands<H: Host>(
     commands: &[Command],
 ) -> Result<(), SessionFault>
     requires fresh { session.old.failed ≡ false }
-    requires built { list_all is_built commands.now ≡ true }
     requires statable { list_all is_statable commands.now ≡ true }
     requires ready { IsReady (H.view host.old) session.old }
     ensures stops { (file text : List ℕ) (m : State)
@@ -71,7 +70,6 @@ fn do_and_close<H: Host>(
     commands: &[Command],
 ) -> Result<(), SessionFault>
     requires fresh { session.failed ≡ false }
-    requires built { list_all is_built commands.now ≡ true }
     requires statable { list_all is_statable commands.now ≡ true }
     requires ready { IsReady (H.view host.old) session }
     ensures stops { (file text : List ℕ) (m : State)
@@ -129,7 +127,7 @@ pub fn run_script<H: Host>(alloc: Global, host: &mut H, target: &Target, script:
     requires fits { length script.now < 2 ^ 32 }
     ensures { RunsWork (Work.Run target.now) script.now (H.view host.old) (H.view host.new) result }
 {
-    built_scripts_are_statable();
+    scripts_are_statable();
     let commands = match read_script(alloc, script) {
         Ok(commands) => commands,
         Err(NoMemory) => return Status::NoMemory,

@@ -1,9 +1,8 @@
 //! A file `a.root` is created, stored into and closed, in memory.
-ghost use Rattle.std.specs.Prelude.{◌≡◌, ◌<◌, ◌^◌, length, false, IfOk, OnOk, IsTrue};
+ghost use Rattle.std.specs.Prelude.{◌≡◌, ◌<◌, ◌^◌, length, false, IfOk, OnOk};
 ghost use Rattle.rio_host.specs.MemHost.{view_of};
 ghost use Rattle.rio_step.specs.Statable.{IsStatable};
 ghost use Rattle.rio_session.specs.Session.{IsReady};
-ghost use Rattle.rio_judge.specs.Judging.{is_judged};
 
 use super::parts::{END, FIRST, FREE, FRONT, KEY_LIST};
 use rio_host::MemHost;
@@ -34,7 +33,6 @@ fn value_of(alloc: Global, text: &[u8]) -> Result<Value, NoMemory>
 pub(super) fn put(alloc: Global, text: &[u8]) -> Result<Command, NoMemory>
     requires { length text.now < 2 ^ 32 }
     ensures stated { IfOk result IsStatable }
-    ensures built { IfOk result (λ c. IsTrue (is_judged c)) }
 {
     let value = value_of(alloc, text)?;
     let name = Name::from_slice(alloc, b"s")?;
@@ -44,7 +42,6 @@ pub(super) fn put(alloc: Global, text: &[u8]) -> Result<Command, NoMemory>
 // Tells the object `s` of this cycle, or the newest.
 pub(super) fn get(alloc: Global, cycle: Option<u32>) -> Result<Command, NoMemory>
     ensures stated { IfOk result IsStatable }
-    ensures built { IfOk result (λ c. IsTrue (is_judged c)) }
 {
     let name = Name::from_slice(alloc, b"s")?;
     Ok(Command::Get {
@@ -59,7 +56,6 @@ fn act(session: &mut Session, host: &mut MemHost, command: &Command) -> Result<(
     requires fresh { session.old.failed ≡ false }
     requires ready { IsReady (view_of host.old) session.old }
     requires stated { IsStatable command.now }
-    requires built { IsTrue (is_judged command.now) }
     ensures fresh { OnOk result (session.new.failed ≡ false) }
     ensures ready { OnOk result (IsReady (view_of host.new) session.new) }
 {
@@ -77,9 +73,7 @@ fn act_thrice(
     requires fresh { session.old.failed ≡ false }
     requires ready { IsReady (view_of host.old) session.old }
     requires first { IsStatable first.now }
-    requires first_built { IsTrue (is_judged first.now) }
     requires second { IsStatable second.now }
-    requires second_built { IsTrue (is_judged second.now) }
     ensures fresh { OnOk result (session.new.failed ≡ false) }
     ensures ready { OnOk result (IsReady (view_of host.new) session.new) }
 {
@@ -88,7 +82,7 @@ fn act_thrice(
     act(session, host, &Command::Ls)
 }
 
-fn close(session: Session, host: &mut MemHost) -> Result<(), SessionFault>
+pub(super) fn close(session: Session, host: &mut MemHost) -> Result<(), SessionFault>
     requires fresh { session.failed ≡ false }
     requires ready { IsReady (view_of host.old) session }
 {
@@ -105,15 +99,13 @@ fn act_and_close(
     requires fresh { session.failed ≡ false }
     requires ready { IsReady (view_of host.old) session }
     requires first { IsStatable first.now }
-    requires first_built { IsTrue (is_judged first.now) }
     requires second { IsStatable second.now }
-    requires second_built { IsTrue (is_judged second.now) }
 {
     act_thrice(&mut session, host, first, second)?;
     close(session, host)
 }
 
-fn open(alloc: Global, host: &mut MemHost) -> Result<Session, SessionFault>
+pub(super) fn open(alloc: Global, host: &mut MemHost) -> Result<Session, SessionFault>
     ensures fresh { IfOk result (λ session. session.failed ≡ false) }
     ensures ready { IfOk result (IsReady (view_of host.new)) }
 {
@@ -132,9 +124,7 @@ pub(super) fn run(
     second: &Command,
 ) -> Result<(), SessionFault>
     requires first { IsStatable first.now }
-    requires first_built { IsTrue (is_judged first.now) }
     requires second { IsStatable second.now }
-    requires second_built { IsTrue (is_judged second.now) }
 {
     let session = open(alloc, host)?;
     act_and_close(session, host, first, second)

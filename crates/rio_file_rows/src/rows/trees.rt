@@ -1,15 +1,15 @@
 //! Files `a.root` of another writer with a tree are opened, stored into, deleted from and recovered, in memory.
-ghost use Rattle.std.specs.Prelude.{IfOk, IsTrue};
+ghost use Rattle.std.specs.Prelude.{IfOk};
 ghost use Rattle.rio_step.specs.Statable.{IsStatable};
-ghost use Rattle.rio_judge.specs.Judging.{is_judged};
 
 use super::cleaned::{BASKET, is_walked, list_length, opens_to, put_record, set_word};
 use super::parts::{END, FIRST, FRONT};
 use super::recovery::{bare_list, put_list};
 use super::reopened::{fails_by, host_of};
+use super::scripts::{REMAINS, copy_of, prints, run_script};
 use super::sessions::{HI, get, put, run};
 use rio_head::Reason;
-use rio_host::{MemHost, Remains};
+use rio_host::MemHost;
 use rio_machine::Command;
 use rio_num::{Bytes, Name, NoMemory};
 use rio_session::{OpenFault, SessionFault};
@@ -172,7 +172,6 @@ fn keeps_a_tree_beside_an_object(rt: HostRuntime) {
 
 fn delete(alloc: Global) -> Result<Command, NoMemory>
     ensures stated { IfOk result IsStatable }
-    ensures built { IfOk result (λ c. IsTrue (is_judged c)) }
 {
     let name = Name::from_slice(alloc, b"T")?;
     Ok(Command::Delete { name, cycle: 1 })
@@ -285,12 +284,6 @@ fn releases_the_header_and_then_the_baskets_by_place(rt: HostRuntime) {
 }
 
 // ---- a delete that is cut off
-
-// What a crash image has of the writes in flight.
-static REMAINS: [&[Remains]; 2] = [
-    &[],
-    &[Remains::All, Remains::All, Remains::All, Remains::All],
-];
 
 // The file is opened, listed twice and closed.
 fn listed(alloc: Global, image: Bytes) -> Result<MemHost, SessionFault> {
@@ -498,4 +491,50 @@ fn reports_a_basket_that_two_headers_name(rt: HostRuntime) {
 #[test]
 fn reports_a_basket_that_is_an_object(rt: HostRuntime) {
     assert!(rt; matches!(is_bad(rt.alloc(), &NO_BASKET, 340), Ok(true)));
+}
+
+// ---- scripts on a tree of another writer
+
+const FILL: &[u8] = b"scan T\nfill T [10]\nscan T\nsave T\nls\n";
+
+const SAID_OF_FILL: &[u8] = b"ok scan T 3\n0 [7]\n1 [8]\n2 [9]\n\
+    ok fill T 3\n\
+    ok scan T 4\n0 [7]\n1 [8]\n2 [9]\n3 [10]\n\
+    ok save T;2 4\n\
+    ok ls 1\nT;2 TTree 4 0\n";
+
+// The baskets that were there stand where they stood, and are read again.
+fn fills_lone(alloc: Global) -> Result<bool, SessionFault> {
+    let host = run_script(alloc, LONE.image(alloc)?, FILL)?;
+    let kept = host.image().get(208..272) == Some(LAST)
+        && host.image().get(272..340) == Some(BEFORE);
+    let again = copy_of(alloc, &host)?;
+    let said = b"ok scan T 4\n0 [7]\n1 [8]\n2 [9]\n3 [10]\n";
+    Ok(host.said().as_slice() == SAID_OF_FILL && kept && prints(alloc, again, b"scan T\n", said)?)
+}
+
+#[test]
+fn fills_a_tree_of_another_writer(rt: HostRuntime) {
+    assert!(rt; matches!(fills_lone(rt.alloc()), Ok(true)));
+}
+
+// The tree has the last cycle.
+static LAST_CYCLE: Made = Made {
+    records: &[LAST, BEFORE, HEADER],
+    words: &[(354, 0x0023_7fff)],
+};
+
+const SAID_OF_LAST: &[u8] = b"no 15 CycleLimit\nno 15 CycleLimit\nok ls 1\nT;32767 TTree 3 0\n";
+
+// Nothing more is written than where the file is only opened and closed.
+fn refuses_at_last(alloc: Global) -> Result<bool, SessionFault> {
+    let refused = run_script(alloc, LAST_CYCLE.image(alloc)?, b"save T\nfill T [1]\nls\n")?;
+    let closed = run_script(alloc, LAST_CYCLE.image(alloc)?, b"")?;
+    let same = refused.writes().len() == closed.writes().len() && refused.image() == closed.image();
+    Ok(refused.said().as_slice() == SAID_OF_LAST && same)
+}
+
+#[test]
+fn writes_nothing_at_the_last_cycle(rt: HostRuntime) {
+    assert!(rt; matches!(refuses_at_last(rt.alloc()), Ok(true)));
 }

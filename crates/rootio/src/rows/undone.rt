@@ -1,4 +1,4 @@
-//! Runs with `delete` and `class` that are cut off at some moment, or of which a call fails: what the file reads as then.
+//! Runs with `delete`, `class`, `tree` and `save` that are cut off at some moment, or of which a call fails: what the file reads as then.
 use super::runs::{host_of, host_of_copy, ran};
 use super::stops::WORDS;
 use crate::status::Status;
@@ -141,6 +141,104 @@ static DECLARED: [Step; 7] = [
     },
 ];
 
+const TREE: &str = "T;1 TTree\n";
+
+const BESIDE: &str = "T;1 TTree\ns;1 TObjString\n";
+
+const SAVED: &str = "T;2 TTree\ns;1 TObjString\n";
+
+// A tree is filled and saved, an object is put between two fills, and the tree is deleted with a row pending.
+static TREES: [Step; 7] = [
+    Step {
+        line: "tree T x=x/I y=y/C\n",
+        reply: "ok tree T;1\n",
+        listing: TREE,
+        classes: "",
+    },
+    Step {
+        line: "fill T [1, \"a\"]\n",
+        reply: "ok fill T 0\n",
+        listing: TREE,
+        classes: "",
+    },
+    Step {
+        line: HI,
+        reply: "ok put s;1\n",
+        listing: BESIDE,
+        classes: "",
+    },
+    Step {
+        line: "save T\n",
+        reply: "ok save T;2 1\n",
+        listing: SAVED,
+        classes: "",
+    },
+    Step {
+        line: "fill T [2, \"b\"]\n",
+        reply: "ok fill T 1\n",
+        listing: SAVED,
+        classes: "",
+    },
+    Step {
+        line: "delete T;2\n",
+        reply: "ok delete T;2\n",
+        listing: ONE,
+        classes: "",
+    },
+    Step {
+        line: "tree T z=z/D\n",
+        reply: "ok tree T;1\n",
+        listing: BESIDE,
+        classes: "",
+    },
+];
+
+const BOTH: &str = "A;1 TTree\nB;1 TTree\n";
+
+// Two trees with rows that the close saves.
+static PENDING: [Step; 4] = [
+    Step {
+        line: "tree B x=x/I\n",
+        reply: "ok tree B;1\n",
+        listing: "B;1 TTree\n",
+        classes: "",
+    },
+    Step {
+        line: "fill B [1]\n",
+        reply: "ok fill B 0\n",
+        listing: "B;1 TTree\n",
+        classes: "",
+    },
+    Step {
+        line: "tree A x=x/I\n",
+        reply: "ok tree A;1\n",
+        listing: BOTH,
+        classes: "",
+    },
+    Step {
+        line: "fill A [1]\n",
+        reply: "ok fill A 0\n",
+        listing: BOTH,
+        classes: "",
+    },
+];
+
+// The saves of their close, in order of names.
+static CLOSING: [Step; 2] = [
+    Step {
+        line: "",
+        reply: "",
+        listing: "A;2 TTree\nB;1 TTree\n",
+        classes: "",
+    },
+    Step {
+        line: "",
+        reply: "",
+        listing: "A;2 TTree\nB;2 TTree\n",
+        classes: "",
+    },
+];
+
 fn script_of(alloc: Global, steps: &[Step]) -> Result<Bytes, NoMemory> {
     let mut script = Bytes::new(alloc);
     for step in steps {
@@ -235,14 +333,31 @@ fn is_after(alloc: Global, found: &Recovered, steps: &[Step], count: usize) -> b
     }
 }
 
-// Whether the host's file reads as a state after as many steps as were said, or one more.
-fn is_prefix_on(alloc: Global, host: &mut MemHost, steps: &[Step], said: usize) -> bool {
+// Whether it reads as a state after one of the saves of a close.
+fn is_closing(alloc: Global, found: &Recovered, closing: &[Step]) -> bool {
+    for count in 0..closing.len() {
+        if is_after(alloc, found, closing, count.saturating_add(1)) {
+            return true;
+        }
+    }
+    false
+}
+
+// Whether the host's file reads as a state after as many steps as were said, or one more, or after one of the saves of the close.
+fn is_prefix_on(
+    alloc: Global,
+    host: &mut MemHost,
+    steps: &[Step],
+    closing: &[Step],
+    said: usize,
+) -> bool {
     match rio_recover::is_unborn(host) {
         Ok(true) => said == 0,
         Ok(false) => match recover(alloc, host) {
             Ok(found) => {
                 is_after(alloc, &found, steps, said)
                     || is_after(alloc, &found, steps, said.saturating_add(1))
+                    || said == steps.len() && is_closing(alloc, &found, closing)
             }
             Err(_) => false,
         },
@@ -250,9 +365,9 @@ fn is_prefix_on(alloc: Global, host: &mut MemHost, steps: &[Step], said: usize) 
     }
 }
 
-fn is_prefix(alloc: Global, image: Bytes, steps: &[Step], said: usize) -> bool {
+fn is_prefix(alloc: Global, image: Bytes, steps: &[Step], closing: &[Step], said: usize) -> bool {
     match host_of(alloc, image, &[]) {
-        Ok(mut host) => is_prefix_on(alloc, &mut host, steps, said),
+        Ok(mut host) => is_prefix_on(alloc, &mut host, steps, closing, said),
         Err(_) => false,
     }
 }
@@ -279,47 +394,60 @@ fn left_at(host: &MemHost, moment: u64, choice: u8) -> Result<Left, NoMemory> {
     host.left(moment, &choices, u64::from(choice))
 }
 
-fn is_prefix_at(alloc: Global, host: &MemHost, moment: u64, choice: u8, steps: &[Step]) -> bool {
+fn is_prefix_at(
+    alloc: Global,
+    host: &MemHost,
+    moment: u64,
+    choice: u8,
+    steps: &[Step],
+    closing: &[Step],
+) -> bool {
     match left_at(host, moment, choice) {
         Ok(left) => {
             let said = whole_replies(steps, left.said.as_slice());
-            is_prefix(alloc, left.image, steps, said)
+            is_prefix(alloc, left.image, steps, closing, said)
         }
         Err(_) => false,
     }
 }
 
 // The first moment and choice at which it is none.
-fn no_prefix(alloc: Global, host: &MemHost, steps: &[Step]) -> Option<(u64, u8)> {
+fn no_prefix(alloc: Global, host: &MemHost, steps: &[Step], closing: &[Step]) -> Option<(u64, u8)> {
     for at in 0..host.moment().saturating_mul(25) {
         let (moment, choice) = (at / 25, (at % 25) as u8);
-        if !is_prefix_at(alloc, host, moment, choice, steps) {
+        if !is_prefix_at(alloc, host, moment, choice, steps, closing) {
             return Some((moment, choice));
         }
     }
     None
 }
 
-fn no_prefix_of(alloc: Global, steps: &[Step]) -> Option<(u64, u8)> {
+fn no_prefix_of(alloc: Global, steps: &[Step], closing: &[Step]) -> Option<(u64, u8)> {
     let nowhere = Some((u64::MAX, 0));
     let (Ok(script), Ok(mut host)) = (script_of(alloc, steps), host_of_copy(alloc, b"", &[])) else {
         return nowhere;
     };
     match ran(alloc, &WORDS, &mut host, script.as_slice()) {
-        Ok(Status::Done) => no_prefix(alloc, &host, steps),
+        Ok(Status::Done) => no_prefix(alloc, &host, steps, closing),
         _ => nowhere,
     }
 }
 
 #[test]
 fn stops(rt: HostRuntime) {
-    assert_eq!(rt; no_prefix_of(rt.alloc(), &PUT_AGAIN), None);
-    assert_eq!(rt; no_prefix_of(rt.alloc(), &IN_A_GAP), None);
+    assert_eq!(rt; no_prefix_of(rt.alloc(), &PUT_AGAIN, &[]), None);
+    assert_eq!(rt; no_prefix_of(rt.alloc(), &IN_A_GAP, &[]), None);
 }
 
 #[test]
 fn stops_of_declarations(rt: HostRuntime) {
-    assert_eq!(rt; no_prefix_of(rt.alloc(), &DECLARED), None);
+    assert_eq!(rt; no_prefix_of(rt.alloc(), &DECLARED, &[]), None);
+}
+
+#[test]
+fn stops_of_trees(rt: HostRuntime) {
+    assert_eq!(rt; no_prefix_of(rt.alloc(), &TREES, &[]), None);
+    assert_eq!(rt; no_prefix_of(rt.alloc(), &PENDING, &CLOSING), None);
 }
 
 // ---- failing calls
@@ -337,7 +465,7 @@ fn recovers(alloc: Global, image: &[u8], steps: &[Step], said: usize) -> Result<
     Ok(
         status == Status::Done
             && is_listed(steps, said, host.said().as_slice())
-            && is_prefix_on(alloc, &mut host, steps, said),
+            && is_prefix_on(alloc, &mut host, steps, &[], said),
     )
 }
 
@@ -395,4 +523,9 @@ fn failing_calls(rt: HostRuntime) {
 #[test]
 fn failing_calls_of_declarations(rt: HostRuntime) {
     assert!(rt; matches!(fails_badly(rt.alloc(), &DECLARED), Ok((None, 50..))));
+}
+
+#[test]
+fn failing_calls_of_trees(rt: HostRuntime) {
+    assert!(rt; matches!(fails_badly(rt.alloc(), &TREES), Ok((None, 60..))));
 }

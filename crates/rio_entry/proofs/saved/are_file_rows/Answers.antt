@@ -15,3 +15,8 @@ returns-clause-saved g c =
     is file told
     ∙ ap (λ (bs : List Branch). list_all (λ e. is_some (row_there file c.args.classes.now bs e)) (range_with_len 0 c.args.head.now.entries)) c.as_slice-branches.ensures
     ∙ whole_rows file c.args.classes.now c.args.head.now order (ap (list_all is_whole) (sym c.as_slice-branches.ensures) ∙ sym c.are_whole.ensures ∙ c.if-not-are_whole.false))
+
+pub returns-clause-whole : goal.returns-clause-whole
+returns-clause-whole g c =
+    if_ok_more c.are_rows_there.result c.are_rows_there.ensures.there (λ saved is there.
+    ap (list_all is_whole) (sym c.as_slice-branches.ensures) ∙ sym c.are_whole.ensures ∙ c.if-not-are_whole.false)

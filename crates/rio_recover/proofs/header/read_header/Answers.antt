@@ -3,7 +3,7 @@ use Rattle.rio_num.specs.At.{AreBytes}
 use Rattle.rio_format.specs.Objects.{first_at}
 use Rattle.rio_state.specs.Trees.{header_by}
 use Rattle.rio_recover.specs.Classes.{classes_in}
-use Rattle.rio_recover.proofs.{Headers.{header_same}, Judging.{obtains_on}}
+use Rattle.rio_recover.proofs.{Headers.{header_same, read_found}, Judging.{obtains_on}}
 use Rattle.rio_recover.proofs.header.read_header.Goals as goal
 
 pub returns-in_err-bytes-clause-header : goal.returns-in_err-bytes-clause-header
@@ -25,3 +25,9 @@ returns-clause-header g c file r told stands same =
     c.in_ok-header_in_data.ensures.header
     ∙ ap (λ (contents : List ℕ). header_by classes.registry head.name (first_at classes.described head.class head.keylen contents)) (c.data_of.ensures ∙ ap (drop head.keylen) c.deref.ensures.value)
     ∙ header_same (classes_in classes) r head c.in_ok-bytes.bytes.items same bytes
+
+pub returns-clause-read : goal.returns-clause-read
+returns-clause-read g c =
+    let classes = c.args.classes.now in
+    let head = c.args.head.now in
+    read_found classes.registry head.name (first_at classes.described head.class head.keylen c.data_of.result.now) c.in_ok-header_in_data.field-0 c.in_ok-header_in_data.ensures.header

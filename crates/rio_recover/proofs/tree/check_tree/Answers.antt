@@ -27,7 +27,7 @@ returns-then-branch-clause-told g c file beside before r told is next same count
 pub returns-then-branch-clause-noted : goal.returns-then-branch-clause-noted
 returns-then-branch-clause-noted g c =
     let noted = subst (NotesPlaces (basket_places c.in-Some.tree) c.args.named.now c.note_head.new.self) c.if-branch.true c.in_ok-note_head.ensures in
-    record { baskets = rw c.in-Some.is at c.in_ok-tree.ensures.baskets; noted = noted }
+    record { baskets = rw c.in-Some.is at c.in_ok-tree.ensures.baskets; whole = rw c.in-Some.is at c.in_ok-tree.ensures.whole; noted = noted }
 
 pub returns-else-branch-clause-told : goal.returns-else-branch-clause-told
 returns-else-branch-clause-told g c file beside before r told is next same counts named =

@@ -44,3 +44,7 @@ returns-else-branch-clause-told g c file beside r told is among same =
     let rows = c.in_ok-has_rows.ensures.rows file (record_at beside.records) read.value (c.read_header.ensures.calls.holds ∙ told) (keyed file keys.classes.now keys.heads.now beside is r among) read.reads in
     ap (λ (b : Bool). some_if b c.in-Some.tree) (sym c.if-branch.false)
     ∙ rows_found file keys.classes.now keys.heads.now beside is r among (Some c.in-Some.tree) c.in-Some.tree c.in_ok-has_rows.field-0 c.classes-classes.result.now there refl c.classes-classes.ensures rows
+
+pub returns-then-branch-clause-whole : goal.returns-then-branch-clause-whole
+returns-then-branch-clause-whole g c =
+    record { read = rw c.in-Some.is at c.in_ok-tree.ensures.read; whole = c.in_ok-has_rows.ensures.whole c.if-branch.true }

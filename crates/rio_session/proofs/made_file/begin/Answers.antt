@@ -1,11 +1,12 @@
-use Rattle.std.proofs.Common.{◌∙◌, List, map, Option, refl, sym, ap, subst}
+use Rattle.std.proofs.Common.{◌∙◌, ℕ, List, map, Option, refl, sym, ap, subst}
 use Rattle.rio_types.specs.declared.class.ClassDef.{ClassDef}
 use Rattle.rio_key.specs.declared.head.KeyHead.{KeyHead}
 use Rattle.rio_model.specs.StateClasses.{StateClasses}
-use Rattle.rio_recover.specs.{Classes.{HasListCycle}, Trees.{places_of}}
-use Rattle.rio_session.specs.SessionState.{kept_tree_of}
+use Rattle.rio_recover.specs.{Classes.{HasListCycle}, Closable.{IsClosable}, Trees.{places_of}, declared.trees.TreeAt.{TreeAt}}
+use Rattle.rio_session.specs.{Due.{IsClosableWith, due_of}, Fills.{FilledTree, bare_tree, places_of_trees}}
 use Rattle.rio_dir.specs.Table.{TableRoom}
-use Rattle.rio_session.proofs.OpenMade.{begins_made, holds_marked, marked_chain, records_of, size_low, stands_made, within_header}
+use Rattle.rio_state.specs.KeyedRecords.{keyed_records}
+use Rattle.rio_session.proofs.{FillableMade.{fillable_made}, FilledMade.{few_baskets}, HeadNumbers.{all_can, all_few}, HeadersRead.{open_heads}, HeaderOfFill.{bare_begun, none_due, places_begun}, OpenMade.{begins_made, holds_marked, marked_chain, records_of, size_low, stands_made, with_begun, within_header}}
 use Rattle.rio_session.proofs.OpenMadeMoments.{cleaned_unclosed, cleaning_time, marked_unclosed, marking_time}
 use Rattle.rio_session.proofs.made_file.begin.Goals as goal
 
@@ -76,15 +77,16 @@ returns-clause-stands g c file text m holds told reads =
       segments = refl;
       classes = kept.registry;
       heads = ap (λ (t : TableRoom). t.heads) kept.table;
-      trees = kept.trees;
+      trees = ap (map bare_tree) c.requires.filled ∙ bare_begun c.args.recovered.trees;
       info = kept.info;
       name = kept.name;
       nbytes_name = kept.nbytes_name;
       opened = c.requires.opened file holds;
       costs = refl;
-      closable = kept.closable;
+      closable = subst (λ (places : List ℕ). IsClosable c.clean.new.recovered.chain.segments c.clean.new.recovered.table.heads c.clean.new.recovered.info places c.clean.new.recovered.name)
+          (ap places_of kept.trees ∙ sym (ap (λ (ts : List FilledTree). places_of_trees (map bare_tree ts)) c.requires.filled ∙ ap places_of_trees (bare_begun c.args.recovered.trees) ∙ places_begun c.args.recovered.trees)) kept.closable;
     })
-    m reads text (c.clean.ensures.writes.said ∙ c.mark_open.ensures.writes.said ∙ told)
+    m reads (record { fillable = fillable_made file m reads; heads = open_heads c.written_tree_is_read.ensures (keyed_records rec.links) c.args.recovered.trees rec.trees c.requires.whole.heads_are (few_baskets c.args.recovered c.requires.room) }) text (c.clean.ensures.writes.said ∙ c.mark_open.ensures.writes.said ∙ told)
 
 pub returns-clause-begins : goal.returns-clause-begins
 returns-clause-begins g c name file holds =
@@ -98,26 +100,31 @@ returns-clause-begins g c name file holds =
       segments = refl;
       classes = kept.registry;
       heads = ap (λ (t : TableRoom). t.heads) kept.table;
-      trees = kept.trees;
+      trees = ap (map bare_tree) c.requires.filled ∙ bare_begun c.args.recovered.trees;
       info = kept.info;
       name = kept.name;
       nbytes_name = kept.nbytes_name;
       opened = c.requires.opened file holds;
       costs = refl;
-      closable = kept.closable;
+      closable = subst (λ (places : List ℕ). IsClosable c.clean.new.recovered.chain.segments c.clean.new.recovered.table.heads c.clean.new.recovered.info places c.clean.new.recovered.name)
+          (ap places_of kept.trees ∙ sym (ap (λ (ts : List FilledTree). places_of_trees (map bare_tree ts)) c.requires.filled ∙ ap places_of_trees (bare_begun c.args.recovered.trees) ∙ places_begun c.args.recovered.trees)) kept.closable;
     })
     name c.args.datime
 
 pub invariant_of-result : goal.invariant_of-result
 invariant_of-result g c =
     let kept = c.in_ok-clean.ensures.kept in
+    let after = c.clean.new.recovered in
     let whole = c.requires.whole in
     record {
       classes = subst StateClasses (sym kept.registry) whole.classes;
       listed = subst (λ (x : Option KeyHead × List ClassDef). HasListCycle x.0 x.1) (λ i. (sym kept.info i, sym kept.registry i)) whole.listed;
-      kept = λ fresh. kept.closable;
+      kept = λ fresh. subst (λ (ts : List FilledTree). IsClosableWith after.chain.segments after.table.heads ts after.info after.name) (sym (ap (map bare_tree) c.requires.filled ∙ bare_begun c.args.recovered.trees))
+          (with_begun after.chain.segments after.table.heads c.args.recovered.trees after.info after.name c.end.ensures.shape
+          (subst (λ (ts : List TreeAt). IsClosable after.chain.segments after.table.heads after.info (places_of ts) after.name) kept.trees kept.closable) (all_can c.args.recovered.trees whole.heads_are) (all_few c.args.recovered.trees whole.heads_are));
       fresh = λ fresh. kept.fresh;
-      trees = c.requires.trees ∙ ap (map kept_tree_of) (sym kept.trees);
+      trees = c.requires.trees;
+      due = λ fresh. sym (ap due_of c.requires.filled ∙ none_due c.args.recovered.trees);
       bytes = λ fresh. c.heads_length-heads_bytes.ensures;
       directory = λ fresh. kept.directory;
     }

@@ -1,6 +1,6 @@
 use Rattle.std.proofs.Common.{◌≡◌, map, take}
-use Rattle.rio_session.specs.SessionState.{kept_tree_of}
+use Rattle.rio_session.proofs.FillLists.{opened_tree}
 use Rattle.rio_session.proofs.made_file.kept_trees.Given as goal
 
 abbrev pub invariant-loop-tree : goal.invariant-loop-tree
-invariant-loop-tree l = l.table.trees ≡ map kept_tree_of (take l.tree-index l.trees)
+invariant-loop-tree l = l.table.trees ≡ map opened_tree (take l.tree-index l.trees)

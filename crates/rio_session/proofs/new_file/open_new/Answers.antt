@@ -3,7 +3,7 @@ use Rattle.rio_model.specs.StateClasses.{StateClasses}
 use Rattle.rio_chain.specs.Chains.{ChainState}
 use Rattle.rio_dir.specs.Table.{TableRoom, heads_size}
 use Rattle.rio_tree_table.specs.Table as trees
-use Rattle.rio_session.specs.SessionState.{kept_tree_of}
+use Rattle.rio_session.specs.{Due.{due_of}, Fills.{FilledRoom, bare_tree}, SessionState.{kept_tree_of}}
 use Rattle.rio_session.proofs.OpenAnswers.{tells_why_new, unborn_sound}
 use Rattle.rio_session.proofs.OpenMoments.{first_unclosed, made_unclosed, making_time, synced_unclosed, unborn_empty}
 use Rattle.rio_session.proofs.OpenNew.{begins_new, chain_new, directory_within, kept_new, stands_new}
@@ -18,10 +18,11 @@ pub invariant_of-result : goal.invariant_of-result
 invariant_of-result g c = record {
   classes = subst StateClasses (sym c.new.ensures) tt;
   listed = tt;
-  kept = λ fresh. kept_new c.in_ok-chain.field-0.chain.segments c.new-2.result.heads c.new-4.result c.args.name.now c.in_ok-own.own c.requires.short
-      (ap (λ (s : ChainState). s.segments) c.in_ok-chain.ensures.chain) c.in_ok-chain.ensures.low (ap (λ (t : TableRoom). t.heads) c.new-2.ensures) c.new-4.ensures c.in_ok-own.ensures;
+  kept = λ fresh. kept_new c.in_ok-chain.field-0.chain.segments c.new-2.result.heads (map bare_tree c.new-4.result.trees) c.args.name.now c.in_ok-own.own c.requires.short
+      (ap (λ (s : ChainState). s.segments) c.in_ok-chain.ensures.chain) c.in_ok-chain.ensures.low (ap (λ (t : TableRoom). t.heads) c.new-2.ensures) (ap (λ (t : FilledRoom). map bare_tree t.trees) c.new-4.ensures) c.in_ok-own.ensures;
   fresh = λ fresh. ap (λ (s : ChainState). s.spent) c.in_ok-chain.ensures.chain;
-  trees = ap (λ (t : trees.TableRoom). t.trees) c.new-3.ensures ∙ ap (map kept_tree_of) (sym c.new-4.ensures);
+  trees = ap (λ (t : trees.TableRoom). t.trees) c.new-3.ensures ∙ ap (λ (t : FilledRoom). map kept_tree_of t.trees) (sym c.new-4.ensures);
+  due = λ fresh. ap (λ (t : FilledRoom). due_of t.trees) (sym c.new-4.ensures);
   bytes = λ fresh. sym (ap (λ (t : TableRoom). heads_size t.heads) c.new-2.ensures);
   directory = λ fresh. directory_within c.in_ok-chain.field-0.chain.segments c.args.name.now c.in_ok-chain.field-0.nbytes_name
       (ap (λ (s : ChainState). s.segments) c.in_ok-chain.ensures.chain) c.in_ok-chain.ensures.name;
@@ -47,7 +48,7 @@ returns-clause-stands g c file text m holds said reads =
       segments = ap (λ (s : ChainState). s.segments) c.in_ok-chain.ensures.chain;
       classes = c.new.ensures;
       heads = ap (λ (t : TableRoom). t.heads) c.new-2.ensures;
-      trees = c.new-4.ensures;
+      trees = ap (λ (t : FilledRoom). map bare_tree t.trees) c.new-4.ensures;
       info = refl;
       name_is = c.in_ok-own.ensures;
       nbytes_name = c.in_ok-chain.ensures.name;
@@ -64,7 +65,7 @@ returns-clause-begins g c file holds =
       segments = ap (λ (s : ChainState). s.segments) c.in_ok-chain.ensures.chain;
       classes = c.new.ensures;
       heads = ap (λ (t : TableRoom). t.heads) c.new-2.ensures;
-      trees = c.new-4.ensures;
+      trees = ap (λ (t : FilledRoom). map bare_tree t.trees) c.new-4.ensures;
       info = refl;
       name_is = c.in_ok-own.ensures;
       nbytes_name = c.in_ok-chain.ensures.name;

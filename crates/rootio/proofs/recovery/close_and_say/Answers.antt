@@ -16,7 +16,7 @@ returns-in-Ok g c =
     let s = c.in-Ok.ensures in
     said_all (g.H.Host.view c.args.host.now) (g.H.Host.view c.close.new.host) c.args.session c.args.lines.now c.requires.ready
     (g.met.H.Host.lawful c.args.host.now) (g.met.H.Host.lawful c.close.new.host) e.any_moment e.writes.told e.writes.said
-    (g.H.Host.view c.say.new.self) (g.met.H.Host.lawful c.say.new.self) e.quiet e.closed e.written e.cause s.time s.holds s.disk_faults s.said (s.counted refl)
+    (g.H.Host.view c.say.new.self) (g.met.H.Host.lawful c.say.new.self) e.quiet e.closed e.written e.records e.cause s.time s.holds s.disk_faults s.said (s.counted refl)
 
 pub returns-in-Err : goal.returns-in-Err
 returns-in-Err g c =
@@ -24,4 +24,4 @@ returns-in-Err g c =
     let s = c.in-Err.ensures in
     said_part (g.H.Host.view c.args.host.now) (g.H.Host.view c.close.new.host) c.args.session c.args.lines.now c.requires.ready
     (g.met.H.Host.lawful c.args.host.now) (g.met.H.Host.lawful c.close.new.host) e.any_moment e.writes.told e.writes.said
-    (g.H.Host.view c.say.new.self) (g.met.H.Host.lawful c.say.new.self) e.quiet e.closed e.written e.cause s.time s.holds s.disk_faults s.failed (s.cause refl)
+    (g.H.Host.view c.say.new.self) (g.met.H.Host.lawful c.say.new.self) e.quiet e.closed e.written e.records e.cause s.time s.holds s.disk_faults s.failed (s.cause refl)

@@ -3,9 +3,10 @@ use Rattle.rio_host.proofs.{Moments.{elapses_join}, PiecesLaws.{grown_join}}
 use Rattle.rio_chain.specs.{Segments.{IsChain, Link}, Stops.{KeepsFront}}
 use Rattle.rio_chain.proofs.OneChain.{chain_one}
 use Rattle.rio_step.specs.Runs.{state_after}
-use Rattle.rio_session.specs.{Closes.{ClosesFile, IsWellClosed}, Session.{ClosesAs}}
+use Rattle.rio_effect.specs.FileRuns.{saved_records}
+use Rattle.rio_session.specs.{Closes.{ClosesFile, IsWellClosed}, Fillings.{closing}, Kept.{all_done}, Session.{ClosesAs, file_records}}
 use Rattle.rio_session.proofs.{CloseStates.{holds_closed_file}, Spoken.{grows_none}}
-use Rattle.rootio.specs.{Headline.{all_replies}, Script.{session_run}, Writing.{StandsUnsaid, file_run_from}}
+use Rattle.rootio.specs.{Headline.{all_replies}, Script.{session_file_run, session_run}, Writing.{StandsUnsaid}}
 use Rattle.rootio.proofs.{Doing.{cause_of_close, on_ok_all}, RunStops.{stop_closing}, Unclosed.{close_open, stays_open}, Untouched.{any_join}}
 use Rattle.rootio.proofs.script.do_and_close.Goals as goal
 
@@ -39,7 +40,7 @@ returns g c =
           (c.close.ensures.any_moment end said (all.done m text stands).stands)
           (λ image told closes. stop_closing r file text image told closes);
       room = λ m text stands none room said told k command there long. (all.done m text stands).room none room k command there;
-      done = on_ok_all c.close.result (λ closed written quiet m text stands.
+      done = on_ok_all c.close.result (λ closed written quiet saves m text stands.
           let r = session_run c.args.session stands.state.links m c.args.commands.now in
           let end = state_after m c.args.commands.now r.marks in
           let done = all.done m text stands in
@@ -51,13 +52,21 @@ returns g c =
                 let closes : ClosesFile (g.H.Host.view c.do_commands.new.host) (g.H.Host.view c.close.new.host) c.do_commands.new.session = written end (text ++ all_replies r) done.stands in
                 let same = quiet image told closes.written.file leaves closes.written.holds in
                 let file : done.records.now ≡ closes.file = same_Some done.records.now closes.file (sym done.records.holds ∙ closes.holds) in
-                let last = (file_run_from c.args.session.datime stands.state.links m c.args.commands.now).records.links in
-                let links : closes.links ≡ last = chain_one closes.file closes.links last closes.chain.chain (subst (IsChain last) file done.records.chain.chain) in
+                let run = session_file_run c.args.session stands.state.links m c.args.commands.now in
+                let last = run.records.links in
+                let there = done.stands.state.links in
+                let its_file : done.records.now ≡ done.stands.file = same_Some done.records.now done.stands.file (sym done.records.holds ∙ done.stands.holds) in
+                let its_links : there ≡ last = chain_one done.stands.file there last done.stands.state.chain.chain (subst (IsChain last) its_file done.records.chain.chain) in
+                let links : closes.links ≡ there = chain_one closes.file closes.links there closes.chain.chain (subst (IsChain there) (sym its_file ∙ file) done.stands.state.chain.chain) in
+                let now : file_records c.do_commands.new.session there ≡ run.records =
+                ap (λ (l : List Link). file_records c.do_commands.new.session l) its_links ∙ sym done.records.records_are in
+                let saved = ap (λ (l : List Link). all_done (closing c.do_commands.new.session).changes l) links ∙ saves end (text ++ all_replies r) done.stands
+                ∙ (λ i. (saved_records (done.datime i) (now i) end).links) in
                 let well = holds_closed_file (g.H.Host.view c.do_commands.new.host) (g.H.Host.view c.close.new.host) c.do_commands.new.session stands.file image closes
                 (subst (KeepsFront stands.file) file done.records.front) (closes.written.holds ∙ ap Some (sym same)) in
-                subst (λ (x : (List ℕ × ℕ) × List Link). IsWellClosed x.0.0 x.0.1 stands.file x.1 image) (λ i. ((done.name i, done.datime i), links i)) well;
+                subst (λ (x : (List ℕ × ℕ) × List Link). IsWellClosed x.0.0 x.0.1 stands.file x.1 image) (λ i. ((done.name i, done.datime i), saved i)) well;
             room = done.room;
-          }) c.close.ensures.closed c.close.ensures.written c.close.ensures.quiet;
+          }) c.close.ensures.closed c.close.ensures.written c.close.ensures.quiet c.close.ensures.records;
       unclosed = λ m text stands.
           let r = session_run c.args.session stands.state.links m c.args.commands.now in
           close_open (g.H.Host.view c.do_commands.new.host) (g.H.Host.view c.close.new.host) c.do_commands.new.session (state_after m c.args.commands.now r.marks)

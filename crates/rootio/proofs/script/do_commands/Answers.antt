@@ -1,7 +1,7 @@
 use Rattle.std.proofs.lemmas.Result.{IfOk-from_err, err_from_is_err_and}
 use Rattle.rio_host.proofs.PiecesLaws.{grown_join}
 use Rattle.rio_machine.specs.declared.command.Outcome.{Outcome}
-use Rattle.rootio.proofs.Built.{built_at, statable_at}
+use Rattle.rootio.proofs.StatableCommands.{statable_at}
 use Rattle.rootio.proofs.{Doing.{all_done, cause_behind, does_next, leaves_open, nothing_yet, room_there, stops_there, unsaid_there}, Untouched.{any_join}}
 use Rattle.rootio.proofs.script.do_commands.Goals as goal
 
@@ -11,7 +11,6 @@ loop-command-init g c = nothing_yet (g.H.Host.view c.args.host.now) c.args.sessi
 pub apply-requires : goal.apply-requires
 apply-requires g c = record {
   fresh = c.loop-command.invariant.fresh;
-  built = built_at c.args.commands.now c.loop-command.command-index c.command-item.result c.loop-command-test.true c.command-item.is c.requires.built;
   statable = statable_at c.args.commands.now c.loop-command.command-index c.command-item.result c.loop-command-test.true c.command-item.is c.requires.statable;
   ready = c.loop-command.invariant.ready;
 }

@@ -2,7 +2,7 @@ use Rattle.std.proofs.Common.{◌∙◌, subst}
 use Rattle.rio_chain.specs.Walks.{Told}
 use Rattle.rio_session.specs.Opening.{BeginsOn, IsBegun}
 use Rattle.rootio.specs.{Target.{TargetFile}, declared.words.Work.TheVariants.{Run}}
-use Rattle.rootio.proofs.{Opening.{not_opened, nothing_done, opened}, Scripts.{its_run, run_there}}
+use Rattle.rootio.proofs.{Opening.{not_opened, nothing_done, opened}, Scripts.{its_records, its_run, run_there}}
 use Rattle.rootio.proofs.script.run_script.Goals as goal
 
 pub returns-in-Err : goal.returns-in-Err
@@ -20,6 +20,7 @@ returns-in-Ok-open g c =
     (opened (Run c.args.target.now) c.args.script.now v0 v1 (g.H.Host.view c.do_and_close.new.host) s
     (run_there s c.as_slice.result.now) c.do_and_close.result e.any_moment e.stands on begun e.why_not e.told e.said e.cause
     (its_run c.args.target.now c.args.script.now v0 v1 s c.as_slice.result.now begun (c.as_slice.ensures ∙ c.in-Ok.ensures))
+    (its_records c.args.target.now c.args.script.now v0 v1 s c.as_slice.result.now begun (c.as_slice.ensures ∙ c.in-Ok.ensures))
     c.do_and_close.ensures.stops c.do_and_close.ensures.done c.do_and_close.ensures.unclosed c.do_and_close.ensures.told c.do_and_close.ensures.said c.do_and_close.ensures.room c.do_and_close.ensures.cause
     (g.met.H.Host.lawful c.args.host.now) (g.met.H.Host.lawful c.do_and_close.new.host))
 

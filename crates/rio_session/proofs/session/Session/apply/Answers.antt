@@ -4,10 +4,10 @@ use Rattle.rio_session.proofs.session.Session.apply.Goals as goal
 pub returns-clause-records : goal.returns-clause-records
 returns-clause-records g c =
     let e = c.judge_and_do.ensures in
-    records_follow (g.H.Host.view c.args.host.now) (g.H.Host.view c.judge_and_do.new.host) c.args.self.now c.judge_and_do.new.self c.args.command.now c.judge_and_do.result e.does
-    e.sound c.requires.fresh e.soon c.requires.statable c.requires.built
+    records_follow c.headers_have_records.ensures (g.H.Host.view c.args.host.now) (g.H.Host.view c.judge_and_do.new.host) c.args.self.now c.judge_and_do.new.self c.args.command.now c.judge_and_do.result e.does
+    e.sound c.requires.fresh e.soon c.requires.statable
 
 pub returns-clause-marks : goal.returns-clause-marks
 returns-clause-marks g c =
     let e = c.judge_and_do.ensures in
-    step_is_told (g.H.Host.view c.args.host.now) c.args.self.now c.args.command.now e.sound c.requires.fresh e.soon c.requires.statable c.requires.built
+    step_is_told c.headers_have_records.ensures (g.H.Host.view c.args.host.now) c.args.self.now c.args.command.now e.sound c.requires.fresh e.soon c.requires.statable

@@ -21,6 +21,7 @@ invariant_of-self g c =
       kept = c.self.invariant.kept;
       fresh = c.self.invariant.fresh;
       trees = c.self.invariant.trees;
+      due = c.self.invariant.due;
       bytes = c.self.invariant.bytes;
       directory = c.self.invariant.directory;
     }
@@ -43,6 +44,7 @@ invariant_of-self-2 g c =
       kept = c.self.invariant.kept;
       fresh = c.self.invariant.fresh;
       trees = c.self.invariant.trees;
+      due = c.self.invariant.due;
       bytes = c.self.invariant.bytes;
       directory = c.self.invariant.directory;
     }
@@ -88,6 +90,7 @@ invariant_of-self-in-Err-NoMemory g c =
       kept = c.self-2.invariant.kept;
       fresh = c.self-2.invariant.fresh;
       trees = c.self-2.invariant.trees;
+      due = c.self-2.invariant.due;
       bytes = c.self-2.invariant.bytes;
       directory = c.self-2.invariant.directory;
     }

@@ -9,7 +9,7 @@ pub read_record-requires-clause-record : goal.read_record-requires-clause-record
 read_record-requires-clause-record g c =
     let kept = c.self.invariant.kept (ap (λ (s : SessionState). s.failed) c.self.view_is ∙ c.requires.fresh) in
     let among = found_key c.args.self.now.heads c.args.head.now.name c.args.head.now.cycle c.args.head.now c.requires.there in
-    key_begins c.self.inside.chain.segments c.self.inside.table.heads c.args.head.now kept.placed (subst (λ (s : SessionState). Contains s.heads c.args.head.now) (sym c.self.view_is) among)
+    key_begins c.self.inside.chain.segments c.self.inside.table.heads c.args.head.now kept.closable.placed (subst (λ (s : SessionState). Contains s.heads c.args.head.now) (sym c.self.view_is) among)
 
 pub returns-in-Ok-clause-tells : goal.returns-in-Ok-clause-tells
 returns-in-Ok-clause-tells g c =

@@ -3,10 +3,10 @@ use Rattle.rio_dir.specs.Table.{with_head}
 use Rattle.rio_chain.specs.{Placing.{file_end, place_of, record_count, with_segment}, declared.fault.PlanFault.TheVariants.{Full}}
 use Rattle.rio_key.specs.declared.head.KeyHead.{KeyHead}
 use Rattle.rio_machine.specs.Limits.{head_length}
-use Rattle.rio_state.specs.Closing.{close_need, end_limit, is_full, padded_length}
+use Rattle.rio_state.specs.Closing.{end_limit, is_full, padded_length}
 use Rattle.rio_step.specs.{Step.{object_put}, ReplyText.{text_of}}
-use Rattle.rio_recover.specs.Closable.{is_sized, kept_with}
-use Rattle.rio_session.specs.{Sound.{IsSoundState}, Puts.{IsFullFor}, Session.{SessionState}}
+use Rattle.rio_recover.specs.Closable.{is_sized}
+use Rattle.rio_session.specs.{Due.{need_with}, Sound.{IsSoundState}, Puts.{IsFullFor}, Session.{SessionState}}
 use Rattle.rio_session.proofs.{PutCalls.{full_is_said, put_is_done, record_can_be_put}, Replies.{does_nothing}}
 use Rattle.rio_session.proofs.session.Session.put.Goals as goal
 
@@ -34,7 +34,7 @@ put_and_say-requires-clause-can g c =
     let sound : IsSoundState s = subst IsSoundState c.self.view_is (record { classes = c.self.invariant.classes; kept = c.self.invariant.kept }) in
     let keyed : c.key_length.result ≡ head_length o.class o.name = c.key_length.ensures.exact ∙ (λ i. head_length (c.as_slice-class.ensures i) (c.as_slice-name.ensures i)) in
     let long : c.padded-n.result ≡ padded_length (head_length o.class o.name + o.length) = c.padded-n.ensures ∙ ap (λ (x : ℕ × ℕ). padded_length (x.0 + x.1)) (λ i. (keyed i, c.from-length.ensures i)) in
-    let need : (h : KeyHead) → is_sized h ≡ true → h.class ≡ o.class → h.name ≡ o.name → c.need_with.result ≡ close_need (kept_with s.name (with_head h s.heads) (record_count s.segments + 1)) =
+    let need : (h : KeyHead) → is_sized h ≡ true → h.class ≡ o.class → h.name ≡ o.name → c.need_with.result ≡ need_with s.name (with_head h s.heads) (record_count s.segments + 1) s.trees =
     λ h sized class name. c.need_with.ensures h sized (class ∙ sym c.as_slice-class.ensures) (name ∙ sym c.as_slice-name.ensures) in
     let at = c.in-Ok.ensures.place ∙ ap (λ (x : SessionState). place_of x.segments c.padded-n.result) v in
     let fits = subst (λ (x : SessionState). file_end (with_segment (place_of x.segments c.padded-n.result) c.padded-n.result x.segments) + c.need_with.result ≤ end_limit) v c.in-Ok.ensures.fits in
@@ -48,7 +48,7 @@ returns-in_ok-text-in-Ok-clause-does g c command todo =
     let sound : IsSoundState s = subst IsSoundState c.self.view_is (record { classes = c.self.invariant.classes; kept = c.self.invariant.kept }) in
     let keyed : c.key_length.result ≡ head_length o.class o.name = c.key_length.ensures.exact ∙ (λ i. head_length (c.as_slice-class.ensures i) (c.as_slice-name.ensures i)) in
     let long : c.padded-n.result ≡ padded_length (head_length o.class o.name + o.length) = c.padded-n.ensures ∙ ap (λ (x : ℕ × ℕ). padded_length (x.0 + x.1)) (λ i. (keyed i, c.from-length.ensures i)) in
-    let need : (h : KeyHead) → is_sized h ≡ true → h.class ≡ o.class → h.name ≡ o.name → c.need_with.result ≡ close_need (kept_with s.name (with_head h s.heads) (record_count s.segments + 1)) =
+    let need : (h : KeyHead) → is_sized h ≡ true → h.class ≡ o.class → h.name ≡ o.name → c.need_with.result ≡ need_with s.name (with_head h s.heads) (record_count s.segments + 1) s.trees =
     λ h sized class name. c.need_with.ensures h sized (class ∙ sym c.as_slice-class.ensures) (name ∙ sym c.as_slice-name.ensures) in
     let at = c.in-Ok.ensures.place ∙ ap (λ (x : SessionState). place_of x.segments c.padded-n.result) v in
     let text = c.as_slice.ensures ∙ c.in_ok-text-in-Ok.ensures ∙ ap (λ (x : List ℕ). text_of (object_put x o.cycle)) c.as_slice-name.ensures in
@@ -66,7 +66,7 @@ returns-in-Err-Full-clause-does g c command todo =
     let sound : IsSoundState s = subst IsSoundState c.self.view_is (record { classes = c.self.invariant.classes; kept = c.self.invariant.kept }) in
     let keyed : c.key_length.result ≡ head_length o.class o.name = c.key_length.ensures.exact ∙ (λ i. head_length (c.as_slice-class.ensures i) (c.as_slice-name.ensures i)) in
     let long : c.padded-n.result ≡ padded_length (head_length o.class o.name + o.length) = c.padded-n.ensures ∙ ap (λ (x : ℕ × ℕ). padded_length (x.0 + x.1)) (λ i. (keyed i, c.from-length.ensures i)) in
-    let need : (h : KeyHead) → is_sized h ≡ true → h.class ≡ o.class → h.name ≡ o.name → c.need_with.result ≡ close_need (kept_with s.name (with_head h s.heads) (record_count s.segments + 1)) =
+    let need : (h : KeyHead) → is_sized h ≡ true → h.class ≡ o.class → h.name ≡ o.name → c.need_with.result ≡ need_with s.name (with_head h s.heads) (record_count s.segments + 1) s.trees =
     λ h sized class name. c.need_with.ensures h sized (class ∙ sym c.as_slice-class.ensures) (name ∙ sym c.as_slice-name.ensures) in
     let fault = subst (IsFullFor c.self.inside.chain.segments c.padded-n.result c.need_with.result) c.in-Err-Full.field-0-is c.in-Err-Full.ensures.full in
     let full = subst (λ (x : SessionState). IsFullFor x.segments c.padded-n.result c.need_with.result (Full c.in-Err-Full.end c.in-Err-Full.wanted)) v fault in

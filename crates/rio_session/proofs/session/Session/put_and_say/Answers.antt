@@ -1,10 +1,10 @@
-use Rattle.std.proofs.{Common.{◌∙◌, List, length, ap, sym, subst, refl, arith}, lemmas.Result.{err_from_is_err_and}}
+use Rattle.std.proofs.{Common.{◌∙◌, List, length, map, ap, sym, subst, refl, arith}, lemmas.Result.{err_from_is_err_and}}
 use Rattle.rio_key.specs.declared.head.KeyHead.{KeyHead}
 use Rattle.rio_dir.specs.Table.{TableRoom, heads_size, with_head}
 use Rattle.rio_chain.specs.{Chains.{ChainState, HasChain}, Changes.{with_record}, Placing.{with_segment}, declared.segment.Segment.{Segment}}
-use Rattle.rio_recover.specs.{Closable.{IsClosable}, Trees.{places_of}, Whole.{HoldsDirectory}}
-use Rattle.rio_session.specs.{Puts.{putting}, Session.{SessionState}}
-use Rattle.rio_session.proofs.{CloseRoom.{directory_stays}, Keeps.{kept_put, size_with}, Needs.{key_bytes}}
+use Rattle.rio_recover.specs.Whole.{HoldsDirectory}
+use Rattle.rio_session.specs.{Due.{IsClosableWith}, Fills.{bare_tree}, Puts.{putting}, Session.{SessionState}}
+use Rattle.rio_session.proofs.{CloseRoom.{directory_stays}, Keeps.{size_with}, KeepsTrees.{kept_put}, Needs.{key_bytes}}
 use Rattle.rio_session.proofs.{ChangeMoments.{changed_and_said, changed_not_said, not_said, one_in_time, one_reached}, PutFacts.{stored_is}}
 use Rattle.rio_session.proofs.session.Session.put_and_say.Goals.{in-Heap-9, in-Inline-9}
 use Rattle.rio_session.proofs.session.Session.put_and_say.Goals as goal
@@ -23,12 +23,13 @@ invariant_of-self-in-Ok g c =
     record {
       classes = c.self.invariant.classes;
       listed = c.self.invariant.listed;
-      kept = λ fresh. kept_put c.args.self.now n c.self.inside.chain.segments _ c.self.inside.table.heads _ c.self.inside.info (places_of c.self.inside.headers) c.self.inside.name c.requires.can (c.self.invariant.kept fresh)
-          (ap (λ (s : SessionState). s.segments) (sym c.self.view_is)) (ap (λ (s : SessionState). s.heads) (sym c.self.view_is)) (ap (λ (s : SessionState). s.name) (sym c.self.view_is))
+      kept = λ fresh. kept_put c.args.self.now n c.self.inside.chain.segments _ c.self.inside.table.heads _ (map bare_tree c.self.inside.filled.trees) c.self.inside.info c.self.inside.name c.requires.can c.in_ok-reserve.ensures.shape (c.self.invariant.kept fresh)
+          (ap (λ (s : SessionState). s.segments) (sym c.self.view_is)) (ap (λ (s : SessionState). s.heads) (sym c.self.view_is)) (ap (λ (s : SessionState). s.trees) (sym c.self.view_is)) (ap (λ (s : SessionState). s.name) (sym c.self.view_is))
           (ap (λ (s : ChainState). s.segments) c.in-Ok.ensures.chain ∙ ap (λ (s : ChainState). with_segment n.head.seek (length n.bytes.bytes) s.segments) c.in_ok-reserve.ensures.ok)
           (ap (λ (t : TableRoom). t.heads) c.insert.ensures ∙ ap (λ (t : TableRoom). with_head n.head t.heads) c.in_ok-reserve_one.ensures.ok);
       fresh = λ fresh. ap (λ (s : ChainState). s.spent) c.in-Ok.ensures.chain ∙ ap (λ (s : ChainState). s.spent) c.in_ok-reserve.ensures.ok ∙ c.self.invariant.fresh fresh;
       trees = c.self.invariant.trees;
+      due = λ fresh. c.self.invariant.due fresh;
       bytes = λ fresh.
           let more = ap (λ (t : TableRoom). t.heads) c.insert.ensures ∙ ap (λ (t : TableRoom). with_head n.head t.heads) c.in_ok-reserve_one.ensures.ok in
           omega (arith, ap heads_size more, size_with n.head c.self.inside.table.heads, c.self.invariant.bytes fresh, c.key_length-added.ensures);
@@ -43,10 +44,11 @@ invariant_of-self-in_err-reserve_one g c =
     record {
       classes = c.self.invariant.classes;
       listed = c.self.invariant.listed;
-      kept = λ fresh. subst (λ (x : List Segment × List KeyHead). IsClosable x.0 x.1 c.self.inside.info (places_of c.self.inside.headers) c.self.inside.name)
+      kept = λ fresh. subst (λ (x : List Segment × List KeyHead). IsClosableWith x.0 x.1 (map bare_tree c.self.inside.filled.trees) c.self.inside.info c.self.inside.name)
           (λ i. (ap (λ (s : ChainState). s.segments) (sym chain) i, ap (λ (t : TableRoom). t.heads) (sym table) i)) (c.self.invariant.kept fresh);
       fresh = λ fresh. ap (λ (s : ChainState). s.spent) chain ∙ c.self.invariant.fresh fresh;
       trees = c.self.invariant.trees;
+      due = λ fresh. c.self.invariant.due fresh;
       bytes = λ fresh. c.self.invariant.bytes fresh ∙ ap (λ (t : TableRoom). heads_size t.heads) (sym table);
       directory = λ fresh. subst (HoldsDirectory c.self.inside.nbytes_name) (ap (λ (s : ChainState). s.segments) (sym chain)) (c.self.invariant.directory fresh);
     }

@@ -11,7 +11,7 @@ returns-clause-records c =
     let v = c.self.view_is in
     let shape : AreSegments s.segments = subst AreSegments (ap (λ (x : SessionState). x.segments) v) c.end-end.ensures.shape in
     let kept : IsClosable s.segments s.heads s.info (baskets_of s) s.name =
-    subst (λ (x : SessionState). IsClosable x.segments x.heads x.info (baskets_of x) x.name) v (c.self.invariant.kept (ap (λ (x : SessionState). x.failed) v ∙ c.requires.fresh)) in
+    subst (λ (x : SessionState). IsClosable x.segments x.heads x.info (baskets_of x) x.name) v (c.self.invariant.kept (ap (λ (x : SessionState). x.failed) v ∙ c.requires.fresh)).closable in
     let are = c.in_ok-insert.ensures.items
     ∙ ap (λ (ps : List ℕ). c.args.head.now.seek ∷ ps) (c.in_ok-places.ensures ∙ ap (tree_places s) c.as_slice.ensures)
     ∙ sym (released_are s shape kept c.args.head.now c.requires.there) in

@@ -31,6 +31,7 @@ invariant_of-self-in-Ok g c =
       kept = λ fresh. replaced_kept _ n can shape (c.self.invariant.kept fresh) _ is;
       fresh = λ fresh. c.in-Ok.ensures.fresh;
       trees = c.self.invariant.trees;
+      due = λ fresh. c.self.invariant.due fresh;
       bytes = λ fresh. c.self.invariant.bytes fresh;
       directory = λ fresh. replaced_directory _ n can shape (c.self.invariant.kept fresh) _ is (c.self.invariant.directory fresh);
     }
