@@ -69,7 +69,7 @@ pub use read::{read_entry, read_entry_with};
 pub use refusals::{empty_lanes, find_refusals};
 pub use rio_machine::EntryFault;
 pub use row::{broken_branch, read_row};
-pub use row_reader::{FileTree, read_tree_row};
+pub use row_reader::{FileTree, fault_held, read_tree_row};
 pub use said_numbers::{entry_numbers, entry_numbers_with};
 pub use saved::{are_rows_saved, read_saved_row};
 pub use stored::FoundBasket;

@@ -85,8 +85,8 @@ pub(crate) fn refusal_before(
     }
 }
 
-// Why there is no entry in a basket.
-fn fault_of(lane: &Lane) -> RowFault
+/// Why there is no entry in the basket that is held, if one is held.
+pub fn fault_held(lane: &Lane) -> RowFault
     ensures { result ≡ fault_held lane.now.basket }
 {
     match &lane.basket {
@@ -159,7 +159,7 @@ fn read_held(
             let counts = entry_counts(alloc, place.before, &row.values, place.branch)?;
             values_of_bytes(alloc, classes, place, &counts, bytes)
         }
-        None => Ok(Err(fault_of(lane))),
+        None => Ok(Err(fault_held(lane))),
     }
 }
 

@@ -34,7 +34,8 @@ fn read_basket_bytes<H: Host>(
     ensures calls { OnlyReads (H.view host.old) (H.view host.new) }
     ensures cause { IsReadCause (H.view host.old) (H.view host.new) result }
 {
-    let most = u64::from(at.bytes).min(file_length);
+    let left = file_length.saturating_sub(at.seek);
+    let most = u64::from(at.bytes).min(left);
     let mut bytes = vec![in alloc; 0u8; most as usize]?;
     let n = prefix_at(host, file_length, at.seek, &mut bytes)?;
     bytes.truncate(n);

@@ -29,6 +29,7 @@ mod work;
 pub use judging::{judge, judge_with_trees};
 pub use laws::{items_have_states, keys_have_states};
 pub use row::judge_row;
+pub use tree::any_has_many_leaves;
 pub use work::{
     AnyWork, Judged, JudgedWithTrees, NewClass, NewRow, NewTree, StoredObject, TreeWork, Work,
 };

@@ -93,7 +93,8 @@ fn has_many_leaves(branch: &BranchDef) -> bool
     }
 }
 
-fn any_has_many_leaves(branches: &[BranchDef]) -> bool
+/// Whether a branch has more leaves than a line of a script may state.
+pub fn any_has_many_leaves(branches: &[BranchDef]) -> bool
     ensures { result ≡ list_any (λ b. has_many_leaves b.shape) branches.now }
 {
     branches.iter().any(|branch| has_many_leaves(branch))

@@ -36,8 +36,8 @@ const BRANCH_LIMIT: usize = 64;
 // How many leaves a branch may have.
 const LEAF_LIMIT: usize = 64;
 
-// The branches as a line of the script declares them.
-fn stated_defs(alloc: Global, branches: &[Branch]) -> Result<BranchDefs, NoMemory>
+/// The branches of a header as a line of a script declares them.
+pub fn stated_defs(alloc: Global, branches: &[Branch]) -> Result<BranchDefs, NoMemory>
     ensures { IfOk result (λ defs. defs ≡ stated_defs branches.now) }
 {
     let mut defs = BranchDefs::new(alloc);

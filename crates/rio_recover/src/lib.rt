@@ -30,6 +30,7 @@ mod walked;
 
 pub use cleaning::clean;
 pub use fault::RecoverFault;
+pub use header::stated_defs;
 pub use laws::garbage_is_cleaned;
 pub use recovery::{Recovered, recover};
 pub use trees::{TreeAt, Trees};
