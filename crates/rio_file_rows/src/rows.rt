@@ -5,6 +5,7 @@ mod cleaned;
 mod closes;
 mod in_a_row;
 mod parts;
+mod quiet;
 mod records;
 mod recovery;
 mod reopened;

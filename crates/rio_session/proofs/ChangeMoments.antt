@@ -97,6 +97,7 @@ module _ (p : Changing) (old mid : View) (before stored : SessionState) (time : 
     quiet = says_quiet p.text lawful quiet is.time is.holds;
     told = subst (λ (o : Option (List ℕ)). Becomes Any old.holds o) (sym is.holds) told;
     says = subst (λ (o : Option (List ℕ)). Becomes (LongerByPart p.text) o new.said) same is.says;
+    some = is.some;
     faults = (is.faults.0 ∙ faults.0, subst (λ (n : ℕ). Rose n new.say_faults) faults.1 is.faults.1);
     failed = is.failed;
   }

@@ -8,13 +8,13 @@ use Rattle.rio_machine.specs.{State.{State}, declared.command.Command.{Command, 
 use Rattle.rio_machine.specs.declared.command.Outcome.{Outcome, TheVariants.{Accepted, Refused}}
 use Rattle.rio_state.specs.{Closing.{held_with}, KeyedRecords.{keyed_records}, Left.{HasOpenHead}, Reads.{AreRecordsOf}, TreeLengths.{pending_in}}
 use Rattle.rio_step.specs.{Costs.{cost_of}, ReplyText.{text_of}, Runs.{saved_of}, Step.{Stepped, outcome_of, reply_to, state_behind}}
-use Rattle.rio_session.specs.{Behind.{FollowsStep, HasChanged, IsOfKeys, WritesNothing}, Causes.{StaysIfRefused}, Does.{Does}}
-use Rattle.rio_session.specs.Changing.{ChangedAndSaid, ChangedNotSaid, ChangesFile, ChangesInTime, Changing, IsBetween, IsReached}
+use Rattle.rio_session.specs.{Behind.{FollowsStep, HasChanged, IsOfKeys, WritesNothing}, Causes.{StaysIfRefused}, Does.{Does, OmitsReply}, Replying.{Replies, printed_of, reply_text}}
+use Rattle.rio_session.specs.Changing.{ChangedAndSaid, ChangedNotSaid, ChangesFile, ChangesInTime, Changing, IsBetween, IsReached, printing}
 use Rattle.rio_session.specs.{Effects.{ArePassed, IsChangeOf, IsKeptAfter, TakesEffect, links_by}, Kept.{LinksChange, all_done, changes_by, kept_by}, Marks.{mark_of_command}}
 use Rattle.rio_session.specs.Session.{FollowsCommand, HoldsState, IsOpenAs, IsReady, LacksRoomIfFull, LeavesOpenAs, SessionState, StandsFor, Steps, Went, next_of, with_cost}
-use Rattle.rio_session.specs.declared.fault.SessionFault.{SessionFault, TheVariants.{HostFault, SayFault, NoMemory}}
-use Rattle.rio_session.proofs.{Follows.{IsSameFile, kept_by_file}, Opened.{open_image}, Refused.{kept_done, step_accepted}, Replies.{read_steps, told_same}}
-use Rattle.rio_session.proofs.{Spoken.{front_none, front_part, front_whole, grows_none, grows_whole, reads_stay}, States.{of_keys}}
+use Rattle.rio_session.specs.declared.{fault.SessionFault.{SessionFault, TheVariants.{HostFault, SayFault, NoMemory}}, replies.Replies.TheVariants.{Printed, Omitted}}
+use Rattle.rio_session.proofs.{Follows.{IsSameFile, kept_by_file}, Opened.{open_image}, Refused.{kept_done, step_accepted}, OnlyReplies.{read_steps, told_same}}
+use Rattle.rio_session.proofs.{Spoken.{front_none, front_part, front_whole, grows_none, grows_whole, reads_stay, same_if_empty}, States.{of_keys}}
 
 -- ---- commands that write
 
@@ -95,7 +95,15 @@ module _ (s : SessionState) (m : State) (c : Command) (writing : is_writing c �
 
 -- ---- on a file
 
-module _ (p : Changing) (old new : View) (before after : SessionState) (lawful : IsLawful old) (ready : IsReady old before) (c : Command) (writing : is_writing c ≡ true) where
+-- where replies are omitted nothing is printed
+omits_change : (replies : Replies) (p : Changing) (old new : View) (before after : SessionState) (answer : Result Outcome SessionFault) → ChangesFile (printing replies p) old new before after answer → OmitsReply replies old new answer
+omits_change Printed p old new before after answer done = tt
+omits_change Omitted p old new before after (Ok outcome) done = record { said = same_if_empty old.said new.said done.says; no_fault = λ e. absurd cc }
+omits_change Omitted p old new before after (Err HostFault) done = record { said = done.said; no_fault = λ e. absurd cc }
+omits_change Omitted p old new before after (Err SayFault) done = record { said = absurd (done.some refl); no_fault = λ e. done.some refl }
+omits_change Omitted p old new before after (Err NoMemory) done = record { said = done.calls.said; no_fault = λ e. absurd cc }
+
+module _ (replies : Replies) (p : Changing) (old new : View) (before after : SessionState) (lawful : IsLawful old) (ready : IsReady old before) (c : Command) (writing : is_writing c ≡ true) where
   -- which files were there meanwhile
   passed_by : (m : State) (links : List Link) (k : ℕ) → IsChangeOf p before m c → IsReached p k links → ArePassed before m c k links
   passed_by m links k is reached = subst (λ (l : List LinksChange). (j : ℕ) → j < k → (image : List ℕ) × IsChain (all_done (take j l) links) image) is.changes reached
@@ -113,8 +121,8 @@ module _ (p : Changing) (old new : View) (before after : SessionState) (lawful :
   state_is : (m : State) → IsChangeOf p before m c → (next_of before m c).state ≡ state_behind m c
   state_is m is = ap (λ (t : Stepped). t.state) (next_is m is)
 
-  text_is : (m : State) → IsChangeOf p before m c → p.text ≡ text_of (next_of before m c).reply
-  text_is m is = is.text ∙ ap (λ (t : Stepped). text_of t.reply) (sym (next_is m is))
+  text_is : (m : State) → IsChangeOf p before m c → printed_of replies p.text ≡ reply_text replies (next_of before m c).reply
+  text_is m is = ap (printed_of replies) (is.text ∙ ap (λ (t : Stepped). text_of t.reply) (sym (next_is m is)))
 
   -- the crash images meanwhile
   module _ (m : State) (said : List ℕ) (s : StandsFor old before m said) (is : IsChangeOf p before m c) (takes : TakesEffect before m c s.state.links) where
@@ -125,7 +133,7 @@ module _ (p : Changing) (old new : View) (before after : SessionState) (lawful :
     open_then image k n chain front records =
         (open_image s.file image before.nbytes_name s.state.links (links_then k) n s.state.head s.state.chain.chain front chain records).reads
 
-    between : (image spoken : List ℕ) → IsBetween p s.file said s.state.links image spoken → Steps m (next_of before m c) said image spoken
+    between : (image spoken : List ℕ) → IsBetween (printing replies p) s.file said s.state.links image spoken → Steps replies m (next_of before m c) said image spoken
     between image spoken b = elim (cases_lt takes.turn b.k) [ inl late ↦ inr (after_turn (takes.late b.k late within passed)) | inr early ↦ before_turn early ]
       where
         chain_then : IsChain (links_then b.k) image
@@ -137,12 +145,12 @@ module _ (p : Changing) (old new : View) (before after : SessionState) (lawful :
         within : b.k ≤ length (changes_by before m c)
         within = subst (λ (l : List LinksChange). b.k ≤ length l) is.changes b.within
 
-        after_turn : AreRecordsOf (keyed_records (links_then b.k)) (saved_of (state_behind m c)) → IsOpenAs (next_of before m c).state image × ((n : ℕ) × (spoken ≡ said ++ take n (text_of (next_of before m c).reply)))
+        after_turn : AreRecordsOf (keyed_records (links_then b.k)) (saved_of (state_behind m c)) → IsOpenAs (next_of before m c).state image × ((n : ℕ) × (spoken ≡ said ++ take n (reply_text replies (next_of before m c).reply)))
         after_turn records = (
           subst (λ (n : State). IsOpenAs n image) (sym (state_is m is)) (open_then image b.k (state_behind m c) chain_then b.front records),
           ⊎_elim
               (λ (same : spoken ≡ said). (0, same ∙ sym (append-nil said)))
-              (λ (x : (b.k ≡ length p.changes) × ((n : ℕ) × (spoken ≡ said ++ take n p.text))). (x.1.0, x.1.1 ∙ ap (λ (l : List ℕ). said ++ take x.1.0 l) (text_is m is)))
+              (λ (x : (b.k ≡ length p.changes) × ((n : ℕ) × (spoken ≡ said ++ take n (printed_of replies p.text)))). (x.1.0, x.1.1 ∙ ap (λ (l : List ℕ). said ++ take x.1.0 l) (text_is m is)))
               b.spoken_is,
         )
 
@@ -155,18 +163,18 @@ module _ (p : Changing) (old new : View) (before after : SessionState) (lawful :
             (subst (λ (l : List LinksChange). AreRecordsOf (keyed_records (all_done l s.state.links)) (saved_of (state_behind m c))) (sym (take-length (changes_by before m c))) (takes.ends all).records)
 
         -- no text is printed before the last change
-        before_turn : b.k ≤ takes.turn → Steps m (next_of before m c) said image spoken
+        before_turn : b.k ≤ takes.turn → Steps replies m (next_of before m c) said image spoken
         before_turn early =
             ⊎_elim
             (λ (same : spoken ≡ said). inl (open_then image b.k m chain_then b.front (takes.early b.k early passed), same))
-            (λ (x : (b.k ≡ length p.changes) × ((n : ℕ) × (spoken ≡ said ++ take n p.text))). inr (after_turn (at_end x.0)))
+            (λ (x : (b.k ≡ length p.changes) × ((n : ℕ) × (spoken ≡ said ++ take n (printed_of replies p.text)))). inr (after_turn (at_end x.0)))
             b.spoken_is
 
-    change_steps : ChangesInTime p old new before → Elapses old new (Steps m (next_of before m c) said)
-    change_steps time = elapses_as (Steps m (next_of before m c) said) (IsBetween p s.file said s.state.links) (time s.file said s.state.links s.holds s.said s.state.chain) between
+    change_steps : ChangesInTime (printing replies p) old new before → Elapses old new (Steps replies m (next_of before m c) said)
+    change_steps time = elapses_as (Steps replies m (next_of before m c) said) (IsBetween (printing replies p) s.file said s.state.links) (time s.file said s.state.links s.holds s.said s.state.chain) between
 
     -- where the changes are done and the text could not be printed
-    change_unsaid : ChangedNotSaid p old new before after → LeavesOpenAs new (next_of before m c).state
+    change_unsaid : ChangedNotSaid (printing replies p) old new before after → LeavesOpenAs new (next_of before m c).state
     change_unsaid done image spoken left =
         let f = done.holds s.file s.state.links s.holds s.state.chain in
         let same : image ≡ f.0 = done.quiet image spoken f.0 left f.1 in
@@ -177,7 +185,7 @@ module _ (p : Changing) (old new : View) (before after : SessionState) (lawful :
         (records_after before m c writing s.file s.state takes passed)).reads
 
   -- what is kept then
-  module _ (done : ChangedAndSaid p old new before after) (m : State) (is : IsChangeOf p before m c) where
+  module _ (done : ChangedAndSaid (printing replies p) old new before after) (m : State) (is : IsChangeOf p before m c) where
     after_is : after ≡ with_cost (cost_of m c) (kept_by before m c)
     after_is = done.kept ∙ (λ i. with_cost (is.cost i) (is.kept i))
 
@@ -198,10 +206,10 @@ module _ (p : Changing) (old new : View) (before after : SessionState) (lawful :
     has_changed = record { kept = after_is; file = change_file }
 
     module _ (said : List ℕ) (s : StandsFor old before m said) (takes : TakesEffect before m c s.state.links) where
-      change_stands : StandsFor new after (next_of before m c).state (said ++ text_of (next_of before m c).reply)
+      change_stands : StandsFor new after (next_of before m c).state (said ++ reply_text replies (next_of before m c).reply)
       change_stands =
           let f = change_file s.file s.state.links s.holds s.state.chain in
-          let grown = becomes_some (Longer p.text) old.said new.said said s.said done.says in
+          let grown = becomes_some (Longer (printed_of replies p.text)) old.said new.said said s.said done.says in
           let passed = passed_all m s.state.links is (done.reached s.file s.state.links s.holds s.state.chain) in
           let segments : after.segments ≡ (kept_by before m c).segments = ap (λ (a : SessionState). a.segments) after_is in
           let chain : HasChain (all_done (changes_by before m c) s.state.links) (kept_by before m c).segments f.0 = subst (λ (l : List Segment). HasChain (all_done (changes_by before m c) s.state.links) l f.0) segments f.2 in
@@ -213,7 +221,7 @@ module _ (p : Changing) (old new : View) (before after : SessionState) (lawful :
                 (state_after before m c writing s.file s.state takes passed f.0 is.stands chain f.3);
           }
 
-      change_went : Went old new before after m c said Accepted
+      change_went : Went replies old new before after m c said Accepted
       change_went = record {
         time = change_steps m said s is takes done.time;
         stands = change_stands;
@@ -226,7 +234,7 @@ module _ (p : Changing) (old new : View) (before after : SessionState) (lawful :
   accepted_lacks : (m : State) → IsChangeOf p before m c → LacksRoomIfFull (with_cost (cost_of m c) before) (outcome_of (next_of before m c).reply)
   accepted_lacks m is = subst (λ (o : Outcome). LacksRoomIfFull (with_cost (cost_of m c) before) o) (sym (accepted m is)) tt
 
-  change_ready : ChangedAndSaid p old new before after → IsReady new after
+  change_ready : ChangedAndSaid (printing replies p) old new before after → IsReady new after
   change_ready done = record {
     quiet = done.quiet;
     chain = λ file told.
@@ -240,48 +248,49 @@ module _ (p : Changing) (old new : View) (before after : SessionState) (lawful :
   never m is nothing = never_nothing before m c writing (accepted m is) nothing
 
 -- what such a command does, in all clauses
-pub does_change : (p : Changing) (old new : View) (before after : SessionState) → IsLawful old → IsReady old before → (c : Command) (answer : Result Outcome SessionFault) → before.failed ≡ false → p.kept.failed ≡ false
-    → IsLawful new → ChangesFile p old new before after answer → is_writing c ≡ true → ((m : State) → IsOfKeys before m → IsChangeOf p before m c)
-    → ((m : State) (file : List ℕ) (h : HoldsState before m file) → TakesEffect before m c h.links) → IfOk answer (λ outcome. outcome ≡ Accepted) → Does old new before after c answer
-does_change p old new before after lawful ready c (Ok outcome) fresh fresh' lawful' done writing is takes same = record {
+pub does_change : (replies : Replies) (p : Changing) (old new : View) (before after : SessionState) → IsLawful old → IsReady old before → (c : Command) (answer : Result Outcome SessionFault) → before.failed ≡ false → p.kept.failed ≡ false
+    → IsLawful new → ChangesFile (printing replies p) old new before after answer → is_writing c ≡ true → ((m : State) → IsOfKeys before m → IsChangeOf p before m c)
+    → ((m : State) (file : List ℕ) (h : HoldsState before m file) → TakesEffect before m c h.links) → IfOk answer (λ outcome. outcome ≡ Accepted) → Does replies old new before after c answer
+does_change replies p old new before after lawful ready c (Ok outcome) fresh fresh' lawful' done writing is takes same = record {
   file = record {
     any_moment = tt;
     told = done.told;
     refused = subst (λ (o : Outcome). StaysIfRefused old new o) (sym same) tt;
-    unwritten = λ m keys nothing. absurd (never p old new before after lawful ready c writing m (is m keys) nothing);
-    changed = λ m keys accepted. has_changed p old new before after lawful ready c writing done m (is m keys);
+    unwritten = λ m keys nothing. absurd (never replies p old new before after lawful ready c writing m (is m keys) nothing);
+    changed = λ m keys accepted. has_changed replies p old new before after lawful ready c writing done m (is m keys);
     unsaid = λ e. absurd cc;
   };
   text = record {
-    said = grows_whole p.text old.said new.said done.says;
+    said = grows_whole (printed_of replies p.text) old.said new.said done.says;
     silent = λ none. absurd none;
     part = λ m said s. let keys = of_keys before m s.file s.state in
-        front_whole old new said p.text (text_of (next_of before m c).reply) s.said (text_is p old new before after lawful ready c writing m (is m keys)) done.says;
-    lacks = λ spoken m said s. accepted_lacks p old new before after lawful ready c writing m (is m (of_keys before m s.file s.state));
+        front_whole old new said (printed_of replies p.text) (reply_text replies (next_of before m c).reply) s.said (text_is replies p old new before after lawful ready c writing m (is m keys)) done.says;
+    lacks = λ spoken m said s. accepted_lacks replies p old new before after lawful ready c writing m (is m (of_keys before m s.file s.state));
   };
   kept = record {
-    done = λ m said s. subst (λ (o : Outcome). Went old new before after m c said o) (sym same)
-        (change_went p old new before after lawful ready c writing done m (is m (of_keys before m s.file s.state)) said s (takes m s.file s.state));
-    goes = λ m keys. change_goes p old new before after lawful ready c writing done m (is m keys) outcome same;
-    ready = change_ready p old new before after lawful ready c writing done;
+    done = λ m said s. subst (λ (o : Outcome). Went replies old new before after m c said o) (sym same)
+        (change_went replies p old new before after lawful ready c writing done m (is m (of_keys before m s.file s.state)) said s (takes m s.file s.state));
+    goes = λ m keys. change_goes replies p old new before after lawful ready c writing done m (is m keys) outcome same;
+    ready = change_ready replies p old new before after lawful ready c writing done;
     failed = ap (λ (a : SessionState). a.failed) done.kept ∙ fresh';
     no_memory = λ e. absurd cc;
     cause = done.faults;
   };
+  omits = omits_change replies p old new before after (Ok outcome) done;
 }
-does_change p old new before after lawful ready c (Err HostFault) fresh fresh' lawful' done writing is takes same = record {
+does_change replies p old new before after lawful ready c (Err HostFault) fresh fresh' lawful' done writing is takes same = record {
   file = record {
-    any_moment = λ m said s. change_steps p old new before after lawful ready c writing m said s (is m (of_keys before m s.file s.state)) (takes m s.file s.state) done.time;
+    any_moment = λ m said s. change_steps replies p old new before after lawful ready c writing m said s (is m (of_keys before m s.file s.state)) (takes m s.file s.state) done.time;
     told = done.told;
     refused = tt;
-    unwritten = λ m keys nothing. absurd (never p old new before after lawful ready c writing m (is m keys) nothing);
+    unwritten = λ m keys nothing. absurd (never replies p old new before after lawful ready c writing m (is m keys) nothing);
     changed = tt;
     unsaid = λ e. absurd cc;
   };
   text = record {
     said = grows_none old.said new.said done.said;
     silent = λ none. done.said;
-    part = λ m said s. front_none old new said (text_of (next_of before m c).reply) s.said done.said;
+    part = λ m said s. front_none old new said (reply_text replies (next_of before m c).reply) s.said done.said;
     lacks = λ spoken. absurd spoken;
   };
   kept = record {
@@ -292,22 +301,23 @@ does_change p old new before after lawful ready c (Err HostFault) fresh fresh' l
     no_memory = λ e. absurd cc;
     cause = done.faults;
   };
+  omits = omits_change replies p old new before after (Err HostFault) done;
 }
-does_change p old new before after lawful ready c (Err SayFault) fresh fresh' lawful' done writing is takes same = record {
+does_change replies p old new before after lawful ready c (Err SayFault) fresh fresh' lawful' done writing is takes same = record {
   file = record {
-    any_moment = λ m said s. change_steps p old new before after lawful ready c writing m said s (is m (of_keys before m s.file s.state)) (takes m s.file s.state) done.time;
+    any_moment = λ m said s. change_steps replies p old new before after lawful ready c writing m said s (is m (of_keys before m s.file s.state)) (takes m s.file s.state) done.time;
     told = done.told;
     refused = tt;
-    unwritten = λ m keys nothing. absurd (never p old new before after lawful ready c writing m (is m keys) nothing);
+    unwritten = λ m keys nothing. absurd (never replies p old new before after lawful ready c writing m (is m keys) nothing);
     changed = tt;
-    unsaid = λ e m said s. change_unsaid p old new before after lawful ready c writing m said s (is m (of_keys before m s.file s.state)) (takes m s.file s.state) done;
+    unsaid = λ e m said s. change_unsaid replies p old new before after lawful ready c writing m said s (is m (of_keys before m s.file s.state)) (takes m s.file s.state) done;
   };
   text = record {
-    said = said_grows p.text old.said new.said done.says;
+    said = said_grows (printed_of replies p.text) old.said new.said done.says;
     silent = λ none. absurd none;
     part = λ m said s. let keys = of_keys before m s.file s.state in
-        front_part old new said p.text (text_of (next_of before m c).reply) s.said (text_is p old new before after lawful ready c writing m (is m keys)) done.says;
-    lacks = λ spoken m said s. accepted_lacks p old new before after lawful ready c writing m (is m (of_keys before m s.file s.state));
+        front_part old new said (printed_of replies p.text) (reply_text replies (next_of before m c).reply) s.said (text_is replies p old new before after lawful ready c writing m (is m keys)) done.says;
+    lacks = λ spoken m said s. accepted_lacks replies p old new before after lawful ready c writing m (is m (of_keys before m s.file s.state));
   };
   kept = record {
     done = tt;
@@ -317,10 +327,11 @@ does_change p old new before after lawful ready c (Err SayFault) fresh fresh' la
     no_memory = λ e. absurd cc;
     cause = done.faults;
   };
+  omits = omits_change replies p old new before after (Err SayFault) done;
 }
-does_change p old new before after lawful ready c (Err NoMemory) fresh fresh' lawful' done writing is takes same = record {
+does_change replies p old new before after lawful ready c (Err NoMemory) fresh fresh' lawful' done writing is takes same = record {
   file = record {
-    any_moment = λ m said s. read_steps old new before after p.text p.cost lawful lawful' ready m c said done.calls s;
+    any_moment = λ m said s. read_steps replies old new before after p.text p.cost lawful lawful' ready m c said done.calls s;
     told = told_same old.holds new.holds done.calls.holds;
     refused = tt;
     unwritten = λ m keys nothing. reads_stay old new done.calls;
@@ -330,7 +341,7 @@ does_change p old new before after lawful ready c (Err NoMemory) fresh fresh' la
   text = record {
     said = grows_none old.said new.said done.calls.said;
     silent = λ none. done.calls.said;
-    part = λ m said s. front_none old new said (text_of (next_of before m c).reply) s.said done.calls.said;
+    part = λ m said s. front_none old new said (reply_text replies (next_of before m c).reply) s.said done.calls.said;
     lacks = λ spoken. absurd spoken;
   };
   kept = record {
@@ -341,4 +352,5 @@ does_change p old new before after lawful ready c (Err NoMemory) fresh fresh' la
     no_memory = λ e. (done.kept, done.calls);
     cause = done.faults;
   };
+  omits = omits_change replies p old new before after (Err NoMemory) done;
 }

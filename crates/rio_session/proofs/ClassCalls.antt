@@ -20,9 +20,9 @@ use Rattle.rio_effect.proofs.PutEffect.{padded_as}
 use Rattle.rio_judge.specs.{Judging.{CanBeDeclared, WorkCanBeDone}, declared.work.{AnyWork.TheVariants.{Item}, NewClass.{NewClass}, Work.TheVariants.{Class as Declaring}}}
 use Rattle.rio_recover.specs.Classes.{HasListCycle}
 use Rattle.rio_session.specs.{Behind.{IsOfKeys}, Changing.{ChangesFile}, Due.{need_with}, Doable.{CanBeDone, IsToDo}, Does.{Does}, Effects.{IsChangeOf, TakesEffect}}
-use Rattle.rio_session.specs.{Lists.{CanBeListedAt, listing_at, with_new}, Says.{SaysReply}, Sound.{IsSoundState}}
+use Rattle.rio_session.specs.{Lists.{CanBeListedAt, listing_at, with_new}, Replying.{Replies, reply_text}, Says.{SaysReply}, Sound.{IsSoundState}}
 use Rattle.rio_session.specs.{Session.{HoldsState, IsReady, LacksRoomIfFull, SessionState, StandsFor, next_of, with_cost}, SessionState.{baskets_of}, declared.fault.SessionFault.{SessionFault}}
-use Rattle.rio_session.proofs.{Changed.{does_change}, ClassEffects.{class_takes_effect_on}, Refused.{step_accepted}, Replies.{does_says}, States.{of_keys}}
+use Rattle.rio_session.proofs.{Changed.{does_change}, ClassEffects.{class_takes_effect_on}, Refused.{step_accepted}, OnlyReplies.{does_says}, States.{of_keys}}
 use Rattle.rio_session.proofs.ClassSteps.{class_full_lacks, class_full_outcome, class_full_still, class_full_told, class_is_change}
 
 -- ---- which command it is
@@ -123,7 +123,7 @@ module _ (s : SessionState) (d : NewClass) (can : CanBeDone s (Declaring d)) (li
 
 -- ---- what the command does
 
-module _ (s : SessionState) (d : NewClass) (can : CanBeDone s (Declaring d)) (sound : IsSoundState s) (listed : HasListCycle s.info s.classes)
+module _ (replies : Replies) (s : SessionState) (d : NewClass) (can : CanBeDone s (Declaring d)) (sound : IsSoundState s) (listed : HasListCycle s.info s.classes)
     (old new : View) (s' : SessionState) (law : IsLawful old) (law' : IsLawful new) (ready : IsReady old s) (fresh : s.failed ≡ false) (soon : s.datime < 2 ^ 32) (answer : Result Outcome SessionFault)
     (cost : ℕ) (cost_is : cost ≡ 100 + d.length) where
   module _ (class : ClassDef) (stated : is_stated_class class ≡ true) (its : CanBeDeclared s.classes class d) where
@@ -133,24 +133,26 @@ module _ (s : SessionState) (d : NewClass) (can : CanBeDone s (Declaring d)) (so
     written : d.length ≡ info_size (with_class s.classes class)
     written = its.written 0 ∙ ap (λ (k : ClassDef). info_size (s.classes ++ k ∷ [])) its.class
 
-    class_does : (place : ℕ) (text : List ℕ) → place < 2 ^ 32 → text ≡ text_of (class_declared d.class.name d.class.version) → place ≡ place_of s.segments (padded_length (list_key_size + d.length))
+    class_does : (place : ℕ) (text : List ℕ) → place < 2 ^ 32 → text ≡ reply_text replies (class_declared d.class.name d.class.version) → place ≡ place_of s.segments (padded_length (list_key_size + d.length))
         → is_full s.segments (padded_length (list_key_size + d.length) ∷ []) (need_with s.name s.heads (2 + length s.heads + length (baskets_of s)) s.trees) ≡ false
-        → ChangesFile (listing_at (with_new s d) place text cost) old new s s' answer → IfOk answer (λ outcome. outcome ≡ Accepted) → Does old new s s' (Class class) answer
+        → ChangesFile (listing_at (with_new s d) place text cost) old new s s' answer → IfOk answer (λ outcome. outcome ≡ Accepted) → Does replies old new s s' (Class class) answer
     class_does place text low text_is at room changes is =
-        does_change (listing_at (with_new s d) place text cost) old new s s' law ready (Class class) answer fresh fresh law' changes refl is_change takes is
+        does_change replies (listing_at (with_new s d) place (text_of (class_declared d.class.name d.class.version)) cost) old new s s' law ready (Class class) answer fresh fresh law'
+        (subst (λ (l : List ℕ). ChangesFile (listing_at (with_new s d) place l cost) old new s s' answer) text_is changes) refl is_change takes is
       where
         long : length (list_record place s.datime (next_list_cycle s.info) (with_class s.classes class)) ≡ padded_length (list_key_size + d.length)
         long =
             ap (λ (k : ClassDef). length (list_record place s.datime (next_list_cycle s.info) (s.classes ++ k ∷ []))) (sym its.class)
             ∙ list_long s d can listed place low soon
 
-        said : text ≡ text_of (class_declared class.name class.version)
-        said = text_is ∙ ap (λ (k : ClassDef). text_of (class_declared k.name k.version)) its.class
+        said : text_of (class_declared d.class.name d.class.version) ≡ text_of (class_declared class.name class.version)
+        said = ap (λ (k : ClassDef). text_of (class_declared k.name k.version)) its.class
 
-        is_change : (m : State) → IsOfKeys s m → IsChangeOf (listing_at (with_new s d) place text cost) s m (Class class)
+        is_change : (m : State) → IsOfKeys s m → IsChangeOf (listing_at (with_new s d) place (text_of (class_declared d.class.name d.class.version)) cost) s m (Class class)
         is_change m keys =
-            subst (λ (k : ClassDef). IsChangeOf (listing_at (record s { classes = s.classes ++ k ∷ [] }) place text cost) s m (Class class)) (sym its.class)
-            (class_is_change s m keys (sound.kept fresh).closable.sized class (free m keys) d.length written place long room at text cost said cost_is)
+            let full : List ℕ = text_of (class_declared d.class.name d.class.version) in
+            subst (λ (k : ClassDef). IsChangeOf (listing_at (record s { classes = s.classes ++ k ∷ [] }) place full cost) s m (Class class)) (sym its.class)
+            (class_is_change s m keys (sound.kept fresh).closable.sized class (free m keys) d.length written place long room at full cost said cost_is)
 
         takes : (m : State) (file : List ℕ) (h : HoldsState s m file) → TakesEffect s m (Class class) h.links
         takes m file h = class_takes_effect_on s m file h sound fresh soon class stated (is_change m (of_keys s m file h)).free
@@ -169,10 +171,10 @@ module _ (s : SessionState) (d : NewClass) (can : CanBeDone s (Declaring d)) (so
           let lacks = class_full_lacks s m st.file st.state (sound.kept fresh) d.length full cost cost_is in
           subst (LacksRoomIfFull (with_cost cost s)) (sym (outcome_is m (of_keys s m st.file st.state))) lacks
 
-      class_full_does : SaysReply (text_of (refused (Full (file_end s.segments) (padded_length (list_key_size + d.length))))) cost old new s s' answer
-          → IfOk answer (λ outcome. outcome ≡ Refused (Full (file_end s.segments) (padded_length (list_key_size + d.length)))) → Does old new s s' (Class class) answer
+      class_full_does : SaysReply (reply_text replies (refused (Full (file_end s.segments) (padded_length (list_key_size + d.length))))) cost old new s s' answer
+          → IfOk answer (λ outcome. outcome ≡ Refused (Full (file_end s.segments) (padded_length (list_key_size + d.length)))) → Does replies old new s s' (Class class) answer
       class_full_does says is =
-          does_says old new s s' (text_of (refused (Full (file_end s.segments) (padded_length (list_key_size + d.length))))) cost law law' ready (Class class) answer fresh says
+          does_says replies old new s s' (text_of (refused (Full (file_end s.segments) (padded_length (list_key_size + d.length))))) cost law law' ready (Class class) answer fresh says
           (λ spoken m keys. class_full_still s m keys (sound.kept fresh).closable.sized class (free m keys) d.length written full cost cost_is)
           (λ spoken m said st. let keys = of_keys s m st.file st.state in class_full_told s m keys (sound.kept fresh).closable.sized class (free m keys) d.length written full)
           (same_full answer is) (λ spoken. lacks_full)
@@ -192,16 +194,16 @@ module _ (s : SessionState) (d : NewClass) (can : CanBeDone s (Declaring d)) (so
     room_is : (b : Bool) → is_full s.segments (n ∷ []) need ≡ b → is_full s.segments (padded_length (list_key_size + d.length) ∷ []) (need_with s.name s.heads (2 + length s.heads + length (baskets_of s)) s.trees) ≡ b
     room_is b room = subst (λ (x : ℕ × ℕ). is_full s.segments (x.0 ∷ []) x.1 ≡ b) (λ i. (n_is i, need_is i)) room
 
-    pub class_is_done : (place : ℕ) (text : List ℕ) → place < 2 ^ 32 → text ≡ text_of (class_declared d.class.name d.class.version) → place ≡ place_of s.segments n → is_full s.segments (n ∷ []) need ≡ false
-        → ChangesFile (listing_at (with_new s d) place text cost) old new s s' answer → IfOk answer (λ outcome. outcome ≡ Accepted) → Does old new s s' c answer
+    pub class_is_done : (place : ℕ) (text : List ℕ) → place < 2 ^ 32 → text ≡ reply_text replies (class_declared d.class.name d.class.version) → place ≡ place_of s.segments n → is_full s.segments (n ∷ []) need ≡ false
+        → ChangesFile (listing_at (with_new s d) place text cost) old new s s' answer → IfOk answer (λ outcome. outcome ≡ Accepted) → Does replies old new s s' c answer
     class_is_done place text low text_is at room changes outcome =
-        subst (λ (x : Command). Does old new s s' x answer) (sym is)
+        subst (λ (x : Command). Does replies old new s s' x answer) (sym is)
         (class_does asked to.statable to.can.0 place text low text_is (at ∙ ap (place_of s.segments) n_is) (room_is false room) changes outcome)
 
-    pub class_full_is_said : (end wanted : ℕ) → end ≡ file_end s.segments → wanted ≡ n → is_full s.segments (n ∷ []) need ≡ true → SaysReply (text_of (refused (Full end wanted))) cost old new s s' answer
-        → IfOk answer (λ outcome. outcome ≡ Refused (Full end wanted)) → Does old new s s' c answer
+    pub class_full_is_said : (end wanted : ℕ) → end ≡ file_end s.segments → wanted ≡ n → is_full s.segments (n ∷ []) need ≡ true → SaysReply (reply_text replies (refused (Full end wanted))) cost old new s s' answer
+        → IfOk answer (λ outcome. outcome ≡ Refused (Full end wanted)) → Does replies old new s s' c answer
     class_full_is_said end wanted end_is wanted_is room says outcome =
-        subst (λ (x : Command). Does old new s s' x answer) (sym is)
+        subst (λ (x : Command). Does replies old new s s' x answer) (sym is)
         (class_full_does asked to.statable to.can.0 (room_is true room)
-        (subst (λ (x : ℕ × ℕ). SaysReply (text_of (refused (Full x.0 x.1))) cost old new s s' answer) (λ i. (end_is i, (wanted_is ∙ n_is) i)) says)
+        (subst (λ (x : ℕ × ℕ). SaysReply (reply_text replies (refused (Full x.0 x.1))) cost old new s s' answer) (λ i. (end_is i, (wanted_is ∙ n_is) i)) says)
         (subst (λ (x : ℕ × ℕ). IfOk answer (λ outcome. outcome ≡ Refused (Full x.0 x.1))) (λ i. (end_is i, (wanted_is ∙ n_is) i)) outcome))

@@ -16,7 +16,7 @@ use Rattle.rio_session.specs.{Due.{IsClosableWith, due_of, kept_records, need_wi
 use Rattle.rio_session.specs.{Marks.{command_lengths, mark_of_command, state_need}, Session.{HoldsState, next_of}, SessionState.{SessionState, baskets_of, kept_trees}}
 use Rattle.rio_session.proofs.{FilledFiles.{filled_now, held_most}, FillSums.{due_baskets, need_by_due}, Lacking.{lacking}}
 use Rattle.rio_session.proofs.{FileNeeds.{mark_by, mark_by_kept}, Needs.{baskets_counted, need_by_keys}, Places.{end_most, full_is, sum_one}}
-use Rattle.rio_session.proofs.{Refused.{changes_refused, kept_refused, refused_full, step_refused}, Replies.{IsStill}}
+use Rattle.rio_session.proofs.{Refused.{changes_refused, kept_refused, refused_full, step_refused}, OnlyReplies.{IsStill}}
 
 -- the objects and trees stay
 pub class_stands : (s : SessionState) (m : State) → IsOfKeys s m → (class : ClassDef) → AreItemsOfState s.heads (kept_trees s) (state_behind m (Class class))

@@ -20,14 +20,14 @@ use Rattle.rio_judge.specs.declared.work.{StoredObject.{StoredObject}, Work.TheV
 use Rattle.rio_effect.specs.ObjectRecord.{key_of_put}
 use Rattle.rio_model.specs.StateClasses.{StateClasses}
 use Rattle.rio_recover.specs.Closable.{is_sized}
-use Rattle.rio_session.specs.{Behind.{IsOfKeys}, Changing.{ChangesFile}, Due.{IsClosableWith, need_with}, Doable.{IsToDo}, Does.{Does}, Causes.{IsSaid}, Effects.{IsChangeOf, TakesEffect}, Gets.{TellsObject}, Sound.{IsSoundState}}
+use Rattle.rio_session.specs.{Behind.{IsOfKeys}, Changing.{ChangesFile}, Due.{IsClosableWith, need_with}, Doable.{IsToDo}, Does.{Does}, Causes.{IsSaid}, Effects.{IsChangeOf, TakesEffect}, Gets.{TellsObject}, Replying.{Replies, printed_of, reply_text}, Sound.{IsSoundState}}
 use Rattle.rio_session.specs.{Puts.{IsStoredRecord, putting}, Says.{SaysReply}}
 use Rattle.rio_session.specs.{Session.{HoldsState, IsReady, LacksRoomIfFull, SessionState, StandsFor, next_of, with_cost}, declared.fault.SessionFault.{SessionFault}}
 use Rattle.rio_session.proofs.GetSteps.{IsSaidOf, get_lacks, get_plain, get_said, get_still, some_of}
 use Rattle.rio_session.proofs.OtherSteps.{ls_outcome, ls_still, ls_told, refused_lacks, refused_outcome, refused_still, refused_told}
 use Rattle.rio_session.proofs.{Changed.{does_change}, PutEffects.{put_takes_effect_on}}
 use Rattle.rio_session.proofs.PutSteps.{full_lacks, full_outcome, full_still, full_told, key_class, key_name, key_sized, put_is_change}
-use Rattle.rio_session.proofs.{Refused.{cost_accepted}, Replies.{IsOutcomeOf, IsStill, does_reply, does_says}, States.{of_keys}}
+use Rattle.rio_session.proofs.{Refused.{cost_accepted}, OnlyReplies.{IsOutcomeOf, IsStill, does_reply, does_says}, States.{of_keys}}
 use Rattle.rio_session.specs.SessionState.{kept_trees}
 
 -- ---- which command it is
@@ -68,7 +68,7 @@ is_put classes heads (Get name asked version) o can = absurd can
 is_put classes heads (Scan name class) o can = absurd can
 is_put classes heads Ls o can = absurd can
 
-module _ (old new : View) (s s' : SessionState) (law : IsLawful old) (law' : IsLawful new) (ready : IsReady old s) (fresh : s.failed ≡ false) (answer : Result Outcome SessionFault) where
+module _ (replies : Replies) (old new : View) (s s' : SessionState) (law : IsLawful old) (law' : IsLawful new) (ready : IsReady old s) (fresh : s.failed ≡ false) (answer : Result Outcome SessionFault) where
   -- ---- refused by the state
 
   same_refused : (c : Command) (refusal : Refusal) (a : Result Outcome SessionFault) → IsJudgementOfItems s.classes s.heads (kept_trees s) c (RefusalOf refusal) → IfOk a (λ outcome. outcome ≡ Refused refusal)
@@ -76,10 +76,10 @@ module _ (old new : View) (s s' : SessionState) (law : IsLawful old) (law' : IsL
   same_refused c refusal (Ok outcome) judged is = λ m keys. is ∙ sym (refused_outcome s m c refusal (judged m keys.classes keys.keys))
   same_refused c refusal (Err e) judged is = tt
 
-  pub refused_does : (c : Command) (refusal : Refusal) → IsJudgementOfItems s.classes s.heads (kept_trees s) c (RefusalOf refusal) → SaysReply (text_of (refused refusal)) 0 old new s s' answer → IfOk answer (λ outcome. outcome ≡ Refused refusal)
-      → Does old new s s' c answer
+  pub refused_does : (c : Command) (refusal : Refusal) → IsJudgementOfItems s.classes s.heads (kept_trees s) c (RefusalOf refusal) → SaysReply (reply_text replies (refused refusal)) 0 old new s s' answer → IfOk answer (λ outcome. outcome ≡ Refused refusal)
+      → Does replies old new s s' c answer
   refused_does c refusal judged says is =
-      does_says old new s s' (text_of (refused refusal)) 0 law law' ready c answer fresh says
+      does_says replies old new s s' (text_of (refused refusal)) 0 law law' ready c answer fresh says
       (λ spoken m keys. refused_still s m c refusal (judged m keys.classes keys.keys))
       (λ spoken m said st. let keys = of_keys s m st.file st.state in refused_told s m c refusal (judged m keys.classes keys.keys))
       (same_refused c refusal answer judged is) lacks
@@ -101,9 +101,9 @@ module _ (old new : View) (s s' : SessionState) (law : IsLawful old) (law' : IsL
       → (m : State) (said : List ℕ) → StandsFor old s m said → LacksRoomIfFull (with_cost 0 s) (outcome_of (next_of s m c).reply)
   lacks_accepted c accepted m said st = subst (λ (o : Outcome). LacksRoomIfFull (with_cost 0 s) o) (sym (accepted m (of_keys s m st.file st.state))) tt
 
-  pub ls_does : IsSoundState s → IsJudgementOfItems s.classes s.heads (kept_trees s) Ls (Judgement (Item Listing)) → SaysReply (item_listing_of (kept_trees s) s.heads) 0 old new s s' answer → IfOk answer (λ outcome. outcome ≡ Accepted) → Does old new s s' Ls answer
+  pub ls_does : IsSoundState s → IsJudgementOfItems s.classes s.heads (kept_trees s) Ls (Judgement (Item Listing)) → SaysReply (printed_of replies (item_listing_of (kept_trees s) s.heads)) 0 old new s s' answer → IfOk answer (λ outcome. outcome ≡ Accepted) → Does replies old new s s' Ls answer
   ls_does sound judged says is =
-      does_says old new s s' (item_listing_of (kept_trees s) s.heads) 0 law law' ready Ls answer fresh says
+      does_says replies old new s s' (item_listing_of (kept_trees s) s.heads) 0 law law' ready Ls answer fresh says
       (λ spoken m keys. ls_still s m keys (sound.kept fresh) (judged m keys.classes keys.keys).0)
       (λ spoken m said st. let keys = of_keys s m st.file st.state in ls_told s m keys (sound.kept fresh) (judged m keys.classes keys.keys).0)
       (same_accepted Ls answer outcome is) (λ spoken. lacks_accepted Ls outcome)
@@ -118,9 +118,9 @@ module _ (old new : View) (s s' : SessionState) (law : IsLawful old) (law' : IsL
   its_outcome c became (Err e) of is = tt
 
   pub get_does : (name : List ℕ) (asked : Option ℕ) (version : Option ℤ) (h : KeyHead) → IsSoundState s → head_of name (Some h.cycle) s.heads ≡ Some h
-      → IsJudgementOfItems s.classes s.heads (kept_trees s) (Get name asked version) (Judgement (Item (Telling h version))) → TellsObject h version old new s s' answer → Does old new s s' (Get name asked version) answer
+      → IsJudgementOfItems s.classes s.heads (kept_trees s) (Get name asked version) (Judgement (Item (Telling h version))) → TellsObject replies h version old new s s' answer → Does replies old new s s' (Get name asked version) answer
   get_does name asked version h sound found judged t =
-      does_reply old new s s' t.prints.text 0 law law' ready (Get name asked version) answer fresh t.prints.says
+      does_reply replies old new s s' t.prints.text 0 law law' ready (Get name asked version) answer fresh t.prints.says
       (λ spoken m keys. get_still s m keys (sound.kept fresh) name asked version)
       (λ spoken m said st. (said_of spoken m said st).0)
       (its_outcome (Get name asked version) t.prints.outcome answer becomes t.prints.outcome_is)
@@ -141,16 +141,16 @@ module _ (old new : View) (s s' : SessionState) (law : IsLawful old) (law' : IsL
         plain = λ m keys accepted. record { changes = refl; kept = refl };
       }
 
-  pub ls_is_done : (c : Command) → IsToDo s c (Item Listing) → IsSoundState s → SaysReply (item_listing_of (kept_trees s) s.heads) 0 old new s s' answer → IfOk answer (λ outcome. outcome ≡ Accepted) → Does old new s s' c answer
+  pub ls_is_done : (c : Command) → IsToDo s c (Item Listing) → IsSoundState s → SaysReply (printed_of replies (item_listing_of (kept_trees s) s.heads)) 0 old new s s' answer → IfOk answer (λ outcome. outcome ≡ Accepted) → Does replies old new s s' c answer
   ls_is_done c todo sound says outcome =
       let is : c ≡ Ls = is_ls s.classes s.heads c todo.can.0 in
-      subst (λ (x : Command). Does old new s s' x answer) (sym is) (ls_does sound (subst (λ (x : Command). IsJudgementOfItems s.classes s.heads (kept_trees s) x (Judgement (Item Listing))) is todo.judged) says outcome)
+      subst (λ (x : Command). Does replies old new s s' x answer) (sym is) (ls_does sound (subst (λ (x : Command). IsJudgementOfItems s.classes s.heads (kept_trees s) x (Judgement (Item Listing))) is todo.judged) says outcome)
 
-  pub get_is_done : (c : Command) (h : KeyHead) (version : Option ℤ) → IsToDo s c (Item (Telling h version)) → IsSoundState s → TellsObject h version old new s s' answer → Does old new s s' c answer
+  pub get_is_done : (c : Command) (h : KeyHead) (version : Option ℤ) → IsToDo s c (Item (Telling h version)) → IsSoundState s → TellsObject replies h version old new s s' answer → Does replies old new s s' c answer
   get_is_done c h version todo sound t =
       let is = is_get s.classes s.heads c h version todo.can.0 in
       let to : IsToDo s (Get is.0 is.1 version) (Item (Telling h version)) = subst (λ (x : Command). IsToDo s x (Item (Telling h version))) is.2 todo in
-      subst (λ (x : Command). Does old new s s' x answer) (sym is.2) (get_does is.0 is.1 version h sound to.can.0.1 to.judged t)
+      subst (λ (x : Command). Does replies old new s s' x answer) (sym is.2) (get_does is.0 is.1 version h sound to.can.0.1 to.judged t)
 
   -- ---- put
 
@@ -173,15 +173,16 @@ module _ (old new : View) (s s' : SessionState) (law : IsLawful old) (law' : IsL
         (key_name s m keys classes kept.closable.count kept.closable.sized v o place low soon named j.0 j.1 unused) in
         subst (λ (x : ℕ × ℕ). is_full s.segments (x.0 ∷ []) x.1 ≡ b) (λ i. (n_is i, k i)) is
 
-    pub put_does : (place : ℕ) (made : NewRecord) (text : List ℕ) → place < 2 ^ 32 → IsStoredRecord s place o made → text ≡ text_of (object_put o.name o.cycle)
-        → place ≡ place_of s.segments n → is_full s.segments (n ∷ []) need ≡ false → ChangesFile (putting s made text cost) old new s s' answer → IfOk answer (λ outcome. outcome ≡ Accepted) → Does old new s s' (Put o.name v) answer
+    pub put_does : (place : ℕ) (made : NewRecord) (text : List ℕ) → place < 2 ^ 32 → IsStoredRecord s place o made → text ≡ reply_text replies (object_put o.name o.cycle)
+        → place ≡ place_of s.segments n → is_full s.segments (n ∷ []) need ≡ false → ChangesFile (putting s made text cost) old new s s' answer → IfOk answer (λ outcome. outcome ≡ Accepted) → Does replies old new s s' (Put o.name v) answer
     put_does place made text low r text_is at room changes is =
-        does_change (putting s made text cost) old new s s' law ready (Put o.name v) answer fresh fresh law' changes refl is_change takes is
+        does_change replies (putting s made (text_of (object_put o.name o.cycle)) cost) old new s s' law ready (Put o.name v) answer fresh fresh law'
+        (subst (λ (l : List ℕ). ChangesFile (putting s made l cost) old new s s' answer) text_is changes) refl is_change takes is
       where
-        is_change : (m : State) → IsOfKeys s m → IsChangeOf (putting s made text cost) s m (Put o.name v)
+        is_change : (m : State) → IsOfKeys s m → IsChangeOf (putting s made (text_of (object_put o.name o.cycle)) cost) s m (Put o.name v)
         is_change m keys =
             let j = its m keys in
-            put_is_change s m keys classes kept.closable.count kept.closable.sized v o place low soon named j.0 j.1 unused made r (room_is false place low room m keys) (at ∙ ap (place_of s.segments) n_is) text cost text_is cost_is
+            put_is_change s m keys classes kept.closable.count kept.closable.sized v o place low soon named j.0 j.1 unused made r (room_is false place low room m keys) (at ∙ ap (place_of s.segments) n_is) (text_of (object_put o.name o.cycle)) cost refl cost_is
 
         takes : (m : State) (file : List ℕ) (h : HoldsState s m file) → TakesEffect s m (Put o.name v) h.links
         takes m file h = put_takes_effect_on s m file h (record { classes = classes; kept = λ f. kept }) fresh soon o.name v named (its m (of_keys s m file h)).0
@@ -203,10 +204,10 @@ module _ (old new : View) (s s' : SessionState) (law : IsLawful old) (law' : IsL
         let lacks = full_lacks s m st.file st.state classes kept v o 0 (omega arith) soon named j.0 j.1 unused full cost cost_is short in
         subst (LacksRoomIfFull (with_cost cost s)) (sym (full_outcome s m keys classes kept.closable.count kept.closable.sized v o 0 (omega arith) soon named j.0 j.1 unused full)) lacks
 
-    pub full_does : head_length o.class o.name ≤ 229 → is_full s.segments (n ∷ []) need ≡ true → SaysReply (text_of (refused (Full (file_end s.segments) n))) cost old new s s' answer
-        → IfOk answer (λ outcome. outcome ≡ Refused (Full (file_end s.segments) n)) → Does old new s s' (Put o.name v) answer
+    pub full_does : head_length o.class o.name ≤ 229 → is_full s.segments (n ∷ []) need ≡ true → SaysReply (reply_text replies (refused (Full (file_end s.segments) n))) cost old new s s' answer
+        → IfOk answer (λ outcome. outcome ≡ Refused (Full (file_end s.segments) n)) → Does replies old new s s' (Put o.name v) answer
     full_does short room says is =
-        does_says old new s s' (text_of (refused (Full (file_end s.segments) n))) cost law law' ready (Put o.name v) answer fresh says still told
+        does_says replies old new s s' (text_of (refused (Full (file_end s.segments) n))) cost law law' ready (Put o.name v) answer fresh says still told
         (same_full answer room is) (λ spoken. lacks_full short room)
       where
         still : IsSaid answer → (m : State) → IsOfKeys s m → IsStill s m (Put o.name v) cost

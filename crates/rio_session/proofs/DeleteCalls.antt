@@ -13,7 +13,7 @@ use Rattle.rio_step.specs.{Refusing.{refusal_of}, ReplyText.{text_of}, Step.{ite
 use Rattle.rio_judge.proofs.KeysOfState.{first_is_found, found_key}
 use Rattle.rio_judge.specs.{Judging.{WorkCanBeDone}, Trees.{IsJudgementOfItems, TreeWorkCanBeDone}, declared.work.JudgedWithTrees.TheVariants.{Accepted as Judgement}}
 use Rattle.rio_judge.specs.declared.work.{AnyWork.{AnyWork, TheVariants.{Item, Tree as OfTree}}, TreeWork.TheVariants.{Delete as DeletingTree}, Work.TheVariants.{Delete as Deleting}}
-use Rattle.rio_session.specs.{Behind.{IsOfKeys}, Changing.{ChangesFile}, Doable.{IsToDelete}, Does.{Does}, Releases.{deleting}}
+use Rattle.rio_session.specs.{Behind.{IsOfKeys}, Changing.{ChangesFile}, Doable.{IsToDelete}, Does.{Does}, Replying.{Replies, reply_text}, Releases.{deleting}}
 use Rattle.rio_session.specs.{Session.{IsReady, SessionState}, SessionState.{kept_trees}, Sound.{IsSoundState}, declared.fault.SessionFault.{SessionFault}}
 use Rattle.rio_session.proofs.{Changed.{does_change}, DeleteEffects.{delete_takes_effect_on}, DeleteSteps.{delete_is_change}, States.{of_keys}}
 
@@ -78,14 +78,15 @@ to_delete s c h (inr todo) =
 pub can_delete : (s : SessionState) (c : Command) (h : KeyHead) → IsToDelete s c h → head_of h.name (Some h.cycle) s.heads ≡ Some h
 can_delete s c h todo = (to_delete s c h todo).found
 
-module _ (old new : View) (s s' : SessionState) (law : IsLawful old) (law' : IsLawful new) (ready : IsReady old s) (fresh : s.failed ≡ false) (sound : IsSoundState s) (answer : Result Outcome SessionFault) where
-  pub delete_is_done : (c : Command) (h : KeyHead) (text : List ℕ) → IsToDelete s c h → text ≡ text_of (item_deleted h.name h.cycle) → ChangesFile (deleting s h text) old new s s' answer
-      → IfOk answer (λ outcome. outcome ≡ Accepted) → Does old new s s' c answer
+module _ (replies : Replies) (old new : View) (s s' : SessionState) (law : IsLawful old) (law' : IsLawful new) (ready : IsReady old s) (fresh : s.failed ≡ false) (sound : IsSoundState s) (answer : Result Outcome SessionFault) where
+  pub delete_is_done : (c : Command) (h : KeyHead) (text : List ℕ) → IsToDelete s c h → text ≡ reply_text replies (item_deleted h.name h.cycle) → ChangesFile (deleting s h text) old new s s' answer
+      → IfOk answer (λ outcome. outcome ≡ Accepted) → Does replies old new s s' c answer
   delete_is_done c h text todo text_is changes outcome =
       let d = to_delete s c h todo in
       let kept = sound.kept fresh in
-      subst (λ (x : Command). Does old new s s' x answer) (sym d.command_is)
-      (does_change (deleting s h text) old new s s' law ready (Delete h.name h.cycle) answer fresh fresh law' changes refl
-      (λ m keys. delete_is_change s m keys kept h d.found text (d.free m keys) text_is)
+      subst (λ (x : Command). Does replies old new s s' x answer) (sym d.command_is)
+      (does_change replies (deleting s h (text_of (item_deleted h.name h.cycle))) old new s s' law ready (Delete h.name h.cycle) answer fresh fresh law'
+      (subst (λ (l : List ℕ). ChangesFile (deleting s h l) old new s s' answer) text_is changes) refl
+      (λ m keys. delete_is_change s m keys kept h d.found (text_of (item_deleted h.name h.cycle)) (d.free m keys) refl)
       (λ m file holds. let keys = of_keys s m file holds in delete_takes_effect_on s m file holds sound fresh h d.found d.named (d.free m keys))
       outcome)

@@ -9,7 +9,7 @@ use Rattle.rio_machine.specs.declared.command.Command.{Command, TheVariants.{Bad
 use Rattle.rio_machine.specs.{declared.command.Outcome.{Outcome, TheVariants.{Accepted, Refused}}, declared.refusal.Refusal.{Refusal}}
 use Rattle.rio_step.specs.{Costs.{cost_of}, Refusing.{refusal_of}, Statable.{IsStatable}, Step.{Stepped, outcome_of, reply_to}}
 use Rattle.rio_effect.specs.{FileRuns.{FileStep, file_step}, HeaderRecords.{HeadersHaveRecords}}
-use Rattle.rio_session.specs.{Behind.{HasChanged}, Causes.{StaysIfRefused}, Does.{Does}, FileSteps.{FollowsFile, HasRecords, IsStepTold, RecordsBecome}, Fills.{put_in}, Sound.{IsSoundState}}
+use Rattle.rio_session.specs.{Behind.{HasChanged}, Causes.{StaysIfRefused}, Does.{Does}, FileSteps.{FollowsFile, HasRecords, IsStepTold, RecordsBecome}, Fills.{put_in}, Replying.{Replies}, Sound.{IsSoundState}}
 use Rattle.rio_session.specs.{Kept.{LinksChange, all_done, changes_after, changes_by, kept_after, kept_by}, Marks.{mark_of_command}, Session.{SessionState, StandsFor, Went, file_records, next_of, with_cost}}
 use Rattle.rio_session.specs.declared.fault.SessionFault.{SessionFault}
 use Rattle.rio_session.proofs.{FileSteps.{steps_follow_files}, Opened.{keeps_own}, States.{of_keys}}
@@ -30,7 +30,7 @@ changes_nothing s m c refusal told = by (refusal_of m c (mark_of_command s m c))
         let own = told_refused s m c refusal (ap (λ (t : Stepped). outcome_of t.reply) (sym (step_accepted m c (mark_of_command s m c) is)) ∙ told) in
         (changes_done s m c is ∙ own.0, kept_done s m c is ∙ own.1)
 
-module _ (headers : HeadersHaveRecords) (old new : View) (before after : SessionState) (m : State) (c : Command) (text : List ℕ) (outcome : Outcome) (d : Does old new before after c (Ok outcome)) (stands : StandsFor old before m text)
+module _ (replies : Replies) (headers : HeadersHaveRecords) (old new : View) (before after : SessionState) (m : State) (c : Command) (text : List ℕ) (outcome : Outcome) (d : Does replies old new before after c (Ok outcome)) (stands : StandsFor old before m text)
     (sound : IsSoundState before) (fresh : before.failed ≡ false) (soon : before.datime < 2 ^ 32) (statable : IsStatable c) where
   abbrev behind : FileStep
   behind = file_step before.datime (file_records before stands.state.links) m c
@@ -38,7 +38,7 @@ module _ (headers : HeadersHaveRecords) (old new : View) (before after : Session
   follows : FollowsFile before m c stands.state.links (file_step before.datime (file_records before stands.state.links) m c)
   follows = steps_follow_files headers before m stands.file c stands.state sound fresh soon statable
 
-  went : Went old new before after m c text outcome
+  went : Went replies old new before after m c text outcome
   went = d.kept.done m text stands
 
   -- the file that is held then
@@ -84,11 +84,11 @@ module _ (headers : HeadersHaveRecords) (old new : View) (before after : Session
       })
 
 -- where the command is done
-pub records_follow : HeadersHaveRecords → (old new : View) (before after : SessionState) (c : Command) (answer : Result Outcome SessionFault) → Does old new before after c answer
+pub records_follow : (replies : Replies) → HeadersHaveRecords → (old new : View) (before after : SessionState) (c : Command) (answer : Result Outcome SessionFault) → Does replies old new before after c answer
     → IsSoundState before → before.failed ≡ false → before.datime < 2 ^ 32 → IsStatable c
     → OnOk answer ((m : State) (text : List ℕ) → StandsFor old before m text → RecordsBecome old new before after m c)
-records_follow headers old new before after c (Ok outcome) d sound fresh soon statable = λ m text stands. records_become headers old new before after m c text outcome d stands sound fresh soon statable
-records_follow headers old new before after c (Err e) d sound fresh soon statable = tt
+records_follow replies headers old new before after c (Ok outcome) d sound fresh soon statable = λ m text stands. records_become replies headers old new before after m c text outcome d stands sound fresh soon statable
+records_follow replies headers old new before after c (Err e) d sound fresh soon statable = tt
 
 -- the records tell the step, whatever is answered
 pub step_is_told : HeadersHaveRecords → (v : View) (s : SessionState) (c : Command) → IsSoundState s → s.failed ≡ false → s.datime < 2 ^ 32 → IsStatable c

@@ -7,7 +7,7 @@ use Rattle.rio_state.specs.Closing.{is_full}
 use Rattle.rio_step.specs.{Costs.{cost_of}, Refusing.{FullMark, refusal_of}, ReplyText.{text_of}, Step.{Stepped, outcome_of, refused}}
 use Rattle.rio_session.specs.{Marks.{command_lengths, lists_after, mark_of_command, state_need, trees_after}, Session.{next_of}, SessionState.{SessionState}}
 use Rattle.rio_step.specs.Step.{state_behind}
-use Rattle.rio_session.proofs.{Refused.{changes_refused, kept_refused, refused_full, step_refused}, Replies.{IsStill}}
+use Rattle.rio_session.proofs.{Refused.{changes_refused, kept_refused, refused_full, step_refused}, OnlyReplies.{IsStill}}
 
 module _ (s : SessionState) (m : State) (c : Command) (lengths : List ℕ) (need : ℕ) (lengths_are : command_lengths s m c ≡ lengths) (need_is : state_need s.name (lists_after s c) (trees_after s m c) (state_behind m c) ≡ need) where
   abbrev told_by : Bool → Option FullMark

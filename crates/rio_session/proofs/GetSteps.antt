@@ -21,7 +21,7 @@ use Rattle.rio_state.proofs.Members.{Found, contains_in, found}
 use Rattle.rio_judge.specs.Judging.{refused_by_object}
 use Rattle.rio_session.specs.{Behind.{IsOfKeys, IsToldByKeys}, Due.{IsClosableWith}, Gets.{IsReplyTo, record_told}, Marks.{command_lengths}, Session.{HoldsState, LacksRoomIfFull, SessionState, next_of}}
 use Rattle.rio_session.proofs.OtherSteps.{accepted_outcome, accepted_still, accepted_told, one_record, refused_lacks, refused_outcome, refused_still, refused_told}
-use Rattle.rio_session.proofs.{KeyClasses.{key_class}, Refused.{cost_accepted}, Replies.{IsStill}, States.{of_keys, saved_objects}}
+use Rattle.rio_session.proofs.{KeyClasses.{key_class}, Refused.{cost_accepted}, OnlyReplies.{IsStill}, States.{of_keys, saved_objects}}
 
 -- this is said of it, and that becomes of it
 abbrev pub IsSaidOf : SessionState → State → List ℕ → Option ℕ → Option ℤ → List ℕ → Outcome → Type 0

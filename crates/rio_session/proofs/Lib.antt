@@ -105,6 +105,7 @@ pub mod NewHeads
 pub mod NewTrees
 pub mod NoClasses
 pub mod NotedLaws
+pub mod OnlyReplies
 pub mod OpenAnswers
 pub mod OpenMade
 pub mod OpenMadeMoments
@@ -140,7 +141,6 @@ pub mod ReleasedFiles
 pub mod ReleasesMade
 pub mod ReplaceMoments
 pub mod ReplacedHeaders
-pub mod Replies
 pub mod Rising
 pub mod RoomMade
 pub mod RowCosts

@@ -123,6 +123,7 @@ module _ (s : SessionState) (d : NewClass) where
     quiet = h.quiet;
     told = h.told;
     says = h.says;
+    some = h.some;
     faults = h.faults;
     failed = h.failed;
   }

@@ -5,7 +5,7 @@ use Rattle.rio_host.proofs.{Images.{becomes_join}, Moments.{elapses_join}}
 use Rattle.rio_chain.specs.{Becoming.{ChainBecomes}, Chains.{HasChain}, Segments.{IsChain, Link}, Stops.{IsEither, KeepsFront}, declared.segment.Segment.{Segment}}
 use Rattle.rio_session.specs.{Causes.{DiskRose, NoCountRose}, Changing.{ChangesInTime, Changing, IsBetween, IsReached, IsUnderway, NotChanged, ReachesAll, links_at}}
 use Rattle.rio_session.specs.{Kept.{LinksChange, all_done}, SessionState.{SessionState}}
-use Rattle.rio_session.proofs.{Opened.{keeps_own}, Replies.{told_same}}
+use Rattle.rio_session.proofs.{Opened.{keeps_own}, OnlyReplies.{told_same}}
 
 -- ---- before the first
 

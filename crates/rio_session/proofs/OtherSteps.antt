@@ -22,7 +22,7 @@ use Rattle.rio_recover.specs.Closable.{begins_at, is_placed, list_count}
 use Rattle.rio_session.specs.{Behind.{IsOfKeys}, Due.{IsClosableWith, need_with}, Kept.{LinksChange, changes_by, kept_by}}
 use Rattle.rio_session.specs.Marks.{command_lengths, lists_after, mark_of_command, state_need, trees_after}
 use Rattle.rio_session.specs.Session.{LacksRoomIfFull, SessionState, next_of}
-use Rattle.rio_session.proofs.{Needs.{baskets_counted, need_by_keys}, Refused.{changes_done, changes_refused, cost_accepted, cost_refused, kept_done, kept_refused, refused_anyway, step_accepted, step_refused}, Replies.{IsStill}}
+use Rattle.rio_session.proofs.{Needs.{baskets_counted, need_by_keys}, Refused.{changes_done, changes_refused, cost_accepted, cost_refused, kept_done, kept_refused, refused_anyway, step_accepted, step_refused}, OnlyReplies.{IsStill}}
 use Rattle.rio_session.specs.SessionState.{kept_trees}
 
 -- ---- records by their keys

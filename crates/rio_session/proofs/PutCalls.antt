@@ -15,7 +15,7 @@ use Rattle.rio_machine.specs.{Limits.{head_length}, declared.command.Command.{Co
 use Rattle.rio_machine.specs.{declared.command.Outcome.{Outcome, TheVariants.{Accepted, Refused}}, declared.refusal.Refusal.TheVariants.{Full}}
 use Rattle.rio_chain.specs.declared.record.NewRecord.{NewRecord}
 use Rattle.rio_state.specs.Closing.{end_limit, is_full, padded_length}
-use Rattle.rio_step.specs.{ReplyText.{text_of}, Step.{object_put, refused}}
+use Rattle.rio_step.specs.{Step.{object_put, refused}}
 use Rattle.rio_judge.proofs.KeysOfState.{first_is_found, found_key}
 use Rattle.rio_judge.specs.Trees.{IsTreeKeyOf, TreeWorkCanBeDone}
 use Rattle.rio_tree_table.specs.Table.{tree_of}
@@ -25,7 +25,7 @@ use Rattle.rio_judge.specs.declared.work.{StoredObject.{StoredObject}, Work.{Wor
 use Rattle.rio_session.specs.{Causes.{NeverReads}, Doable.{AnyCanBeDone, CanBeDone, IsToDo, ReadsNothing}, Does.{Does}, Sound.{IsSoundState}}
 use Rattle.rio_recover.specs.Closable.{is_sized}
 use Rattle.rio_session.specs.{Changing.{ChangesFile}, Due.{need_with}, Puts.{CanBePut, IsStoredRecord, putting}}
-use Rattle.rio_session.specs.{Says.{SaysReply}, Session.{IsReady, SessionState}, declared.fault.SessionFault.{SessionFault}}
+use Rattle.rio_session.specs.{Replying.{Replies, reply_text}, Says.{SaysReply}, Session.{IsReady, SessionState}, declared.fault.SessionFault.{SessionFault}}
 use Rattle.rio_session.proofs.{ClassCalls.{can_declare}, CommandDoes.{full_does, is_get, is_put, put_does}, DeleteCalls.{to_delete, tree_delete}, PutFacts.{can_be_put, class_is, name_is, sized_is}, StoredRecords.{is_stored}}
 use Rattle.rio_session.specs.{Fills.{FilledTree, is_tree_of, kept_tree_of}, SessionState.{kept_trees}}
 use Rattle.rio_session.proofs.FillLists.{kept_found}
@@ -144,7 +144,7 @@ module _ (s : SessionState) (o : StoredObject) (can : CanBeDone s (Storing o)) (
       (need_is made.head (sized_is s place o made r) (class_is s place o made r) (name_is s place o made r))
       (subst (λ (k : ℕ). file_end (with_segment (place_of s.segments k) k s.segments) + need ≤ end_limit) n_is fits)
 
-  module _ (old new : View) (s' : SessionState) (law : IsLawful old) (law' : IsLawful new) (ready : IsReady old s) (fresh : s.failed ≡ false) (soon : s.datime < 2 ^ 32) (answer : Result Outcome SessionFault)
+  module _ (replies : Replies) (old new : View) (s' : SessionState) (law : IsLawful old) (law' : IsLawful new) (ready : IsReady old s) (fresh : s.failed ≡ false) (soon : s.datime < 2 ^ 32) (answer : Result Outcome SessionFault)
       (cost : ℕ) (cost_is : cost ≡ 500 + o.length) (c : Command) (todo : IsToDo s c (Item (Storing o))) where
     abbrev v : Value
     v = (is_put s.classes s.heads c o todo.can.0).0
@@ -155,18 +155,18 @@ module _ (s : SessionState) (o : StoredObject) (can : CanBeDone s (Storing o)) (
     to : IsToDo s (Put o.name (is_put s.classes s.heads c o todo.can.0).0) (Item (Storing o))
     to = subst (λ (x : Command). IsToDo s x (Item (Storing o))) is todo
 
-    pub put_is_done : (place : ℕ) (made : NewRecord) (text : List ℕ) → place < 2 ^ 32 → IsStoredRecord s place o made → text ≡ text_of (object_put o.name o.cycle)
-        → place ≡ place_of s.segments n → is_full s.segments (n ∷ []) need ≡ false → ChangesFile (putting s made text cost) old new s s' answer → IfOk answer (λ outcome. outcome ≡ Accepted) → Does old new s s' c answer
+    pub put_is_done : (place : ℕ) (made : NewRecord) (text : List ℕ) → place < 2 ^ 32 → IsStoredRecord s place o made → text ≡ reply_text replies (object_put o.name o.cycle)
+        → place ≡ place_of s.segments n → is_full s.segments (n ∷ []) need ≡ false → ChangesFile (putting s made text cost) old new s s' answer → IfOk answer (λ outcome. outcome ≡ Accepted) → Does replies old new s s' c answer
     put_is_done place made text low r text_is at room changes outcome =
-        subst (λ (x : Command). Does old new s s' x answer) (sym is)
-        (put_does old new s s' law law' ready fresh answer v o n need cost sound.classes (sound.kept fresh) to.statable soon to.judged can.1 n_is need_is cost_is
+        subst (λ (x : Command). Does replies old new s s' x answer) (sym is)
+        (put_does replies old new s s' law law' ready fresh answer v o n need cost sound.classes (sound.kept fresh) to.statable soon to.judged can.1 n_is need_is cost_is
         place made text low r text_is at room changes outcome)
 
-    pub full_is_said : (end wanted : ℕ) → end ≡ file_end s.segments → wanted ≡ n → is_full s.segments (n ∷ []) need ≡ true → SaysReply (text_of (refused (Full end wanted))) cost old new s s' answer
-        → IfOk answer (λ outcome. outcome ≡ Refused (Full end wanted)) → Does old new s s' c answer
+    pub full_is_said : (end wanted : ℕ) → end ≡ file_end s.segments → wanted ≡ n → is_full s.segments (n ∷ []) need ≡ true → SaysReply (reply_text replies (refused (Full end wanted))) cost old new s s' answer
+        → IfOk answer (λ outcome. outcome ≡ Refused (Full end wanted)) → Does replies old new s s' c answer
     full_is_said end wanted end_is wanted_is room says outcome =
-        subst (λ (x : Command). Does old new s s' x answer) (sym is)
-        (full_does old new s s' law law' ready fresh answer v o n need cost sound.classes (sound.kept fresh) to.statable soon to.judged can.1 n_is need_is cost_is
+        subst (λ (x : Command). Does replies old new s s' x answer) (sym is)
+        (full_does replies old new s s' law law' ready fresh answer v o n need cost sound.classes (sound.kept fresh) to.statable soon to.judged can.1 n_is need_is cost_is
         can.0.key_short room
-        (subst (λ (x : ℕ × ℕ). SaysReply (text_of (refused (Full x.0 x.1))) cost old new s s' answer) (λ i. (end_is i, wanted_is i)) says)
+        (subst (λ (x : ℕ × ℕ). SaysReply (reply_text replies (refused (Full x.0 x.1))) cost old new s s' answer) (λ i. (end_is i, wanted_is i)) says)
         (subst (λ (x : ℕ × ℕ). IfOk answer (λ outcome. outcome ≡ Refused (Full x.0 x.1))) (λ i. (end_is i, wanted_is i)) outcome))

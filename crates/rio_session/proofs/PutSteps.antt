@@ -22,7 +22,7 @@ use Rattle.rio_session.specs.{Behind.{IsOfKeys}, Due.{IsClosableWith, due_of, ke
 use Rattle.rio_session.specs.{Items.{AreTreeKeys}, Puts.{IsStoredRecord, putting}, Session.{HoldsState, SessionState, next_of}, SessionState.{baskets_of, kept_trees}}
 use Rattle.rio_session.proofs.{Keeps.{all_with, length_with, size_with}, FilledFiles.{filled_now, held_most}, FillSums.{due_baskets, need_by_due}, Lacking.{lacking}, Needs.{baskets_counted, need_by_keys}, Places.{end_most, full_is, sum_one}}
 use Rattle.rio_session.proofs.{PutFacts.{changes_are, cost_is, kept_is, place_is, text_is}, Refused.{changes_refused, kept_refused, refused_full, step_refused}}
-use Rattle.rio_session.proofs.{PutKeys.{put_stands, put_tree_keys}, Replies.{IsStill}, States.{of_keys}}
+use Rattle.rio_session.proofs.{PutKeys.{put_stands, put_tree_keys}, OnlyReplies.{IsStill}, States.{of_keys}}
 
 -- ---- the put
 

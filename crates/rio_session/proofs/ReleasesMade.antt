@@ -10,7 +10,7 @@ use Rattle.rio_chain.specs.{Segments.{Link}, Stops.{IsEither}, declared.segment.
 use Rattle.rio_recover.specs.{Cleaning.{without_segments}, Closable.{begins_at}}
 use Rattle.rio_recover.proofs.Released.{any_left, record_segment}
 use Rattle.rio_session.specs.{Changing.{ChangesInTime, Changing, IsUnderway, links_at}, Kept.{LinksChange, all_done}, Releases.{AreApart, AreReleasable}, SessionState.{SessionState}}
-use Rattle.rio_session.proofs.{Moments.{more_in_time, nothing_yet, one_more}, Replies.{told_same}}
+use Rattle.rio_session.proofs.{Moments.{more_in_time, nothing_yet, one_more}, OnlyReplies.{told_same}}
 
 -- ---- the places
 

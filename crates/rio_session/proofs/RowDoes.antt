@@ -11,12 +11,12 @@ use Rattle.rio_effect.proofs.Held.{chain_segments}
 use Rattle.rio_judge.specs.declared.work.NewRow.{NewRow}
 use Rattle.rio_recover.specs.Closable.{list_count}
 use Rattle.rio_session.specs.{Behind.{IsOfKeys}, Changing.{ChangesFile}, Does.{Does}, Due.{IsClosableWith, need_with}, Effects.{IsChangeOf, TakesEffect}, Fillings.{Done, filling_with}, Fills.{AreNamesOrdered, FilledTree, is_tree_of}}
-use Rattle.rio_session.specs.{Kept.{kept_by}, Marks.{state_need}, RowPlans.{IsFillOf, IsRowOf, need_of_row, row_cost}, Says.{SaysReply}, Session.{HoldsState, IsReady, LacksRoomIfFull, SessionState, next_of, with_cost}, Sound.{IsSoundState}, TreeWorks.{doing}, declared.fault.SessionFault.{SessionFault}}
+use Rattle.rio_session.specs.{Kept.{kept_by}, Marks.{state_need}, Replying.{Replies, reply_text}, RowPlans.{IsFillOf, IsRowOf, need_of_row, row_cost}, Says.{SaysReply}, Session.{HoldsState, IsReady, LacksRoomIfFull, SessionState, next_of, with_cost}, Sound.{IsSoundState}, TreeWorks.{doing}, declared.fault.SessionFault.{SessionFault}}
 use Rattle.rio_session.proofs.{Changed.{does_change}, FillAgrees.{filled, passed, segments_then}, FillEffects.{fill_is_kept, fill_takes_effect_on}, FillKept.{need_is, put_kept}, FillRoom.{row_need_is}}
 use Rattle.rio_session.proofs.{FillSteps.{fill_cost_is, fill_is_change, fill_lengths_are, fill_need_is, filling_one}, FilledTrees.{IsFilledOf, found_name, tree_of_fill}, FullCommands.{full_outcome, full_still, full_told}, LacksBehind.{lacks_behind}}
-use Rattle.rio_session.proofs.{PlanRoom.{plan_full_is}, Replies.{IsStill, does_says}, States.{of_keys}}
+use Rattle.rio_session.proofs.{PlanRoom.{plan_full_is}, OnlyReplies.{IsStill, does_says}, States.{of_keys}}
 
-module _ (old new : View) (s s' : SessionState) (law : IsLawful old) (law' : IsLawful new) (ready : IsReady old s) (fresh : s.failed ≡ false) (sound : IsSoundState s) (soon : s.datime < 2 ^ 32) (answer : Result Outcome SessionFault)
+module _ (replies : Replies) (old new : View) (s s' : SessionState) (law : IsLawful old) (law' : IsLawful new) (ready : IsReady old s) (fresh : s.failed ≡ false) (sound : IsSoundState s) (soon : s.datime < 2 ^ 32) (answer : Result Outcome SessionFault)
     (r : NewRow) (entries : List (List ℕ)) (t : FilledTree) (found : find (is_tree_of r.name) s.trees ≡ Some t) (of : IsRowOf t entries) (ordered : AreNamesOrdered s.trees)
     (cost : ℕ) (cost_is : cost ≡ row_cost entries t.fill.pending) (c : Command) (is : IsFillOf s r entries c) where
   abbrev fill : Command
@@ -112,12 +112,14 @@ module _ (old new : View) (s s' : SessionState) (law : IsLawful old) (law' : IsL
   takes : (m : State) (file : List ℕ) (h : HoldsState s m file) → TakesEffect s m (Fill r.name is.row) h.links
   takes m file h = fill_takes_effect_on s m file h sound fresh soon r.name is.row is.named (is.free m (of_keys s m file h))
 
-  pub row_is_done : (text : List ℕ) → text ≡ text_of (row_added r.name (t.fill.saved + t.fill.pending)) → is_full s.segments (filling_with s t.name entries t.fill).lengths (need_of_row s t entries) ≡ false
-      → ChangesFile (doing (filling_with s r.name entries t.fill) text cost) old new s s' answer → IfOk answer (λ outcome. outcome ≡ Accepted) → Does old new s s' c answer
+  pub row_is_done : (text : List ℕ) → text ≡ reply_text replies (row_added r.name (t.fill.saved + t.fill.pending)) → is_full s.segments (filling_with s t.name entries t.fill).lengths (need_of_row s t entries) ≡ false
+      → ChangesFile (doing (filling_with s r.name entries t.fill) text cost) old new s s' answer → IfOk answer (λ outcome. outcome ≡ Accepted) → Does replies old new s s' c answer
   row_is_done text text_is room changes same =
       let its_room : is_full s.segments done.lengths need ≡ false = ap (λ (n : List ℕ). is_full s.segments (filling_with s n entries t.fill).lengths need) (sym named) ∙ room in
-      subst (λ (d : Command). Does old new s s' d answer) (sym is.fill)
-      (does_change (doing done text cost) old new s s' law ready fill answer fresh fresh law' changes refl (λ m keys. is_change m keys text text_is its_room) takes same)
+      subst (λ (d : Command). Does replies old new s s' d answer) (sym is.fill)
+      (does_change replies (doing done (text_of (row_added r.name (t.fill.saved + t.fill.pending))) cost) old new s s' law ready fill answer fresh fresh law'
+      (subst (λ (l : List ℕ). ChangesFile (doing done l cost) old new s s' answer) text_is changes) refl
+      (λ m keys. is_change m keys (text_of (row_added r.name (t.fill.saved + t.fill.pending))) refl its_room) takes same)
 
   same_full : (a : Result Outcome SessionFault) → is_full s.segments (filling_with s r.name entries t.fill).lengths (need_of_row s t entries) ≡ true
       → IfOk a (λ outcome. outcome ≡ Refused (Full (file_end s.segments) (sum (filling_with s r.name entries t.fill).lengths))) → IfOk a (λ outcome. (m : State) → IsOfKeys s m → outcome ≡ outcome_of (next_of s m (Fill r.name is.row)).reply)
@@ -125,14 +127,14 @@ module _ (old new : View) (s s' : SessionState) (law : IsLawful old) (law' : IsL
   same_full (Ok o) full same = λ m keys. same ∙ sym (outcome m keys full)
 
   pub row_is_full : (end wanted : ℕ) → end ≡ file_end s.segments → wanted ≡ sum (filling_with s t.name entries t.fill).lengths → is_full s.segments (filling_with s t.name entries t.fill).lengths (need_of_row s t entries) ≡ true
-      → SaysReply (text_of (refused (Full end wanted))) cost old new s s' answer → IfOk answer (λ outcome. outcome ≡ Refused (Full end wanted)) → Does old new s s' c answer
+      → SaysReply (reply_text replies (refused (Full end wanted))) cost old new s s' answer → IfOk answer (λ outcome. outcome ≡ Refused (Full end wanted)) → Does replies old new s s' c answer
   row_is_full end wanted end_is wanted_is full says same =
       let its_full : is_full s.segments done.lengths need ≡ true = ap (λ (n : List ℕ). is_full s.segments (filling_with s n entries t.fill).lengths need) (sym named) ∙ full in
       let its_wanted : wanted ≡ sum done.lengths = wanted_is ∙ ap (λ (n : List ℕ). sum (filling_with s n entries t.fill).lengths) named in
-      let its_says = subst (λ (p : ℕ × ℕ). SaysReply (text_of (refused (Full p.0 p.1))) cost old new s s' answer) (λ i. (end_is i, its_wanted i)) says in
+      let its_says = subst (λ (p : ℕ × ℕ). SaysReply (reply_text replies (refused (Full p.0 p.1))) cost old new s s' answer) (λ i. (end_is i, its_wanted i)) says in
       let its_outcome = subst (λ (p : ℕ × ℕ). IfOk answer (λ outcome. outcome ≡ Refused (Full p.0 p.1))) (λ i. (end_is i, its_wanted i)) same in
-      subst (λ (d : Command). Does old new s s' d answer) (sym is.fill)
-      (does_says old new s s' (text_of (refused (Full (file_end s.segments) (sum done.lengths)))) cost law law' ready fill answer fresh its_says
+      subst (λ (d : Command). Does replies old new s s' d answer) (sym is.fill)
+      (does_says replies old new s s' (text_of (refused (Full (file_end s.segments) (sum done.lengths)))) cost law law' ready fill answer fresh its_says
       (λ spoken m keys. still m keys its_full)
       (λ spoken m said st. told m (of_keys s m st.file st.state) its_full)
       (same_full answer its_full its_outcome)

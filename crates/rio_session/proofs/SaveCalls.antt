@@ -19,9 +19,9 @@ use Rattle.rio_step.specs.{Refusing.{refusal_of}, ReplyText.{text_of}, Step.{out
 use Rattle.rio_effect.specs.HeaderRecords.{HeadersHaveRecords}
 use Rattle.rio_recover.specs.Closable.{list_count}
 use Rattle.rio_session.specs.{Changing.{ChangesFile}, Doable.{AnyCanBeDone, IsToDo}, Does.{Does}, Due.{IsClosableWith}, Effects.{IsChangeOf, TakesEffect}, Fillings.{Done, nothing_done, saving, saving_tree, saving_with}}
-use Rattle.rio_session.specs.{Fills.{AreNamesOrdered, FilledTree, is_tree_of, places_of_trees}, Items.{IsOfKeys}, Marks.{command_lengths, state_need}, SavePlans.{need_of_save, saving_now}, Says.{Said, SaysReply}}
+use Rattle.rio_session.specs.{Fills.{AreNamesOrdered, FilledTree, is_tree_of, places_of_trees}, Items.{IsOfKeys}, Marks.{command_lengths, state_need}, Replying.{Replies, reply_text}, SavePlans.{need_of_save, saving_now}, Says.{Said, SaysReply}}
 use Rattle.rio_session.specs.{Session.{HoldsState, IsReady, LacksRoomIfFull, StandsFor, next_of, with_cost}, SessionState.{SessionState, kept_trees}, Sound.{IsSoundState}, TreeWorks.{doing}, declared.fault.SessionFault.{SessionFault, TheVariants.{HostFault, SayFault, NoMemory}}}
-use Rattle.rio_session.proofs.{Changed.{does_change}, FilledTrees.{found_name}, Follows.{saving_file}, FullCommands.{full_outcome, full_still, full_told}, KeepsGone.{key_begins, key_later}, Replies.{does_says}}
+use Rattle.rio_session.proofs.{Changed.{does_change}, FilledTrees.{found_name}, Follows.{saving_file}, FullCommands.{full_outcome, full_still, full_told}, KeepsGone.{key_begins, key_later}, OnlyReplies.{does_says}}
 use Rattle.rio_session.proofs.{SaveCan.{is_savable, own_apart, own_sound, short}, SaveEffects.{save_takes}, SaveLacks.{save_lacks}, SaveRoom.{save_need_is, sound_here, tree_named}, SaveSteps.{cost_is, save_is_change}, StandsOn.{StandsOn, holds_on}, States.{of_keys}}
 
 -- ---- costs, as far as 64 bits hold them
@@ -64,7 +64,7 @@ lengths_told s m name = refl
 
 -- ---- what it does
 
-module _ (headers : HeadersHaveRecords) (old new : View) (s s' : SessionState) (law : IsLawful old) (law' : IsLawful new) (ready : IsReady old s) (fresh : s.failed ≡ false) (sound : IsSoundState s) (soon : s.datime < 2 ^ 32)
+module _ (replies : Replies) (headers : HeadersHaveRecords) (old new : View) (s s' : SessionState) (law : IsLawful old) (law' : IsLawful new) (ready : IsReady old s) (fresh : s.failed ≡ false) (sound : IsSoundState s) (soon : s.datime < 2 ^ 32)
     (answer : Result Outcome SessionFault) (k : KeyHead) (can : AnyCanBeDone s (Tree (Saving k))) (t : FilledTree) (found : find (is_tree_of k.name) s.trees ≡ Some t) (ordered : AreNamesOrdered s.trees) (form : AreSegments s.segments)
     (c : Command) (todo : IsToDo s c (Tree (Saving k))) where
   closable : IsClosableWith s.segments s.heads s.trees s.info s.name
@@ -121,15 +121,17 @@ module _ (headers : HeadersHaveRecords) (old new : View) (s s' : SessionState) (
       let later = key_later s.segments s.heads s.info (places_of_trees s.trees) s.name k form closable.closable (first_is_found k.name s.heads k first) in
       save_takes s m file on k v found_named first its savable (own_apart s m file on k v found_named first closable) begins later
 
-  pub save_is_done : (text : List ℕ) → is_full s.segments (saving_now s t k).lengths (need_of_save s t k) ≡ false → text ≡ text_of (rows_saved k.name (k.cycle + 1) (t.fill.saved + t.fill.pending))
-      → ChangesFile (doing (saving_now s t k) text save_meant) old new s s' answer → IfOk answer (λ outcome. outcome ≡ Accepted) → Does old new s s' c answer
+  pub save_is_done : (text : List ℕ) → is_full s.segments (saving_now s t k).lengths (need_of_save s t k) ≡ false → text ≡ reply_text replies (rows_saved k.name (k.cycle + 1) (t.fill.saved + t.fill.pending))
+      → ChangesFile (doing (saving_now s t k) text save_meant) old new s s' answer → IfOk answer (λ outcome. outcome ≡ Accepted) → Does replies old new s s' c answer
   save_is_done text room text_is changes outcome =
-      subst (λ (x : Command). Does old new s s' x answer) (sym is)
-      (does_change (doing (saving s k.name) text save_meant) old new s s' law ready (Save k.name) answer fresh ((saving_file s k.name).failed ∙ fresh) law'
-      (subst (λ (d : Done). ChangesFile (doing d text save_meant) old new s s' answer) (sym done_is) changes) refl is_change takes outcome)
+      subst (λ (x : Command). Does replies old new s s' x answer) (sym is)
+      (does_change replies (doing (saving s k.name) (text_of (rows_saved k.name (k.cycle + 1) (t.fill.saved + t.fill.pending))) save_meant) old new s s' law ready (Save k.name) answer fresh ((saving_file s k.name).failed ∙ fresh) law'
+      (subst (λ (x : Done × List ℕ). ChangesFile (doing x.0 x.1 save_meant) old new s s' answer) (λ i. (sym done_is i, text_is i)) changes) refl is_change takes outcome)
     where
-      is_change : (m : State) → IsOfKeys s m → IsChangeOf (doing (saving s k.name) text save_meant) s m (Save k.name)
-      is_change m keys = save_is_change s m k keys v found_named first text save_meant (free m keys) (room_as false m keys room) text_is refl
+      is_change : (m : State) → IsOfKeys s m → IsChangeOf (doing (saving s k.name) (text_of (rows_saved k.name (k.cycle + 1) (t.fill.saved + t.fill.pending))) save_meant) s m (Save k.name)
+      is_change m keys =
+          let full : List ℕ = text_of (rows_saved k.name (k.cycle + 1) (t.fill.saved + t.fill.pending)) in
+          save_is_change s m k keys v found_named first full save_meant (free m keys) (room_as false m keys room) refl refl
 
   -- ---- where there is no room
 
@@ -152,18 +154,18 @@ module _ (headers : HeadersHaveRecords) (old new : View) (s s' : SessionState) (
         let lacks = save_lacks s k t.fill found_named first named (sound_here s k t.fill found_named first closable ordered form) m st.file st.state closable (room_named true full) in
         subst (LacksRoomIfFull (with_cost save_meant s)) (sym (outcome_is m (of_keys s m st.file st.state))) lacks
 
-    full_does : SaysReply (text_of (refused (Full (file_end s.segments) (sum lengths)))) save_meant old new s s' answer → IfOk answer (λ outcome. outcome ≡ Refused (Full (file_end s.segments) (sum lengths)))
-        → Does old new s s' (Save k.name) answer
+    full_does : SaysReply (reply_text replies (refused (Full (file_end s.segments) (sum lengths)))) save_meant old new s s' answer → IfOk answer (λ outcome. outcome ≡ Refused (Full (file_end s.segments) (sum lengths)))
+        → Does replies old new s s' (Save k.name) answer
     full_does says same =
-        does_says old new s s' (text_of (refused (Full (file_end s.segments) (sum lengths)))) save_meant law law' ready (Save k.name) answer fresh says
+        does_says replies old new s s' (text_of (refused (Full (file_end s.segments) (sum lengths)))) save_meant law law' ready (Save k.name) answer fresh says
         (λ spoken m keys. full_still s m (Save k.name) lengths (need_in m) (lengths_told s m k.name) refl (free m keys) (room_as true m keys full) save_meant (cost_is s m k keys v found_named first (free m keys)))
         (λ spoken m said st. let keys = of_keys s m st.file st.state in full_told s m (Save k.name) lengths (need_in m) (lengths_told s m k.name) refl (free m keys) (room_as true m keys full))
         (same_full answer same) (λ spoken. lacks_full)
 
-    pub save_is_refused : (end wanted : ℕ) → end ≡ file_end s.segments → wanted ≡ sum (saving_now s t k).lengths → SaysReply (text_of (refused (Full end wanted))) save_meant old new s s' answer
-        → IfOk answer (λ outcome. outcome ≡ Refused (Full end wanted)) → Does old new s s' c answer
+    pub save_is_refused : (end wanted : ℕ) → end ≡ file_end s.segments → wanted ≡ sum (saving_now s t k).lengths → SaysReply (reply_text replies (refused (Full end wanted))) save_meant old new s s' answer
+        → IfOk answer (λ outcome. outcome ≡ Refused (Full end wanted)) → Does replies old new s s' c answer
     save_is_refused end wanted end_is wanted_is says same =
         let all : wanted ≡ sum lengths = wanted_is ∙ ap (λ (d : Done). sum d.lengths) (sym done_is) in
-        subst (λ (x : Command). Does old new s s' x answer) (sym is)
-        (full_does (subst (λ (x : ℕ × ℕ). SaysReply (text_of (refused (Full x.0 x.1))) save_meant old new s s' answer) (λ i. (end_is i, all i)) says)
+        subst (λ (x : Command). Does replies old new s s' x answer) (sym is)
+        (full_does (subst (λ (x : ℕ × ℕ). SaysReply (reply_text replies (refused (Full x.0 x.1))) save_meant old new s s' answer) (λ i. (end_is i, all i)) says)
         (subst (λ (x : ℕ × ℕ). IfOk answer (λ outcome. outcome ≡ Refused (Full x.0 x.1))) (λ i. (end_is i, all i)) same))

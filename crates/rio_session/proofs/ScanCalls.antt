@@ -14,9 +14,9 @@ use Rattle.rio_recover.specs.Closable.{begins_at}
 use Rattle.rio_state.proofs.{Members.{In, all_at, in_map}, TreesSame.{in_flat_map}}
 use Rattle.rio_tree.specs.{SavedEntries.{entries_at}, declared.basket_at.BasketAt.{BasketAt}}
 use Rattle.rio_types.specs.declared.{class.Base.{Base}, class.ClassDef.{ClassDef}}
-use Rattle.rio_session.specs.{Causes.{IsSaid}, Fills.{FilledTree, bare, bare_tree, is_tree_of, places_of_fill, places_of_trees}, HeldBaskets.{IsTreeStored}, Gets.{PrintsTold}, Says.{SaysReply}, ScanReplies.{TellsRows}, Scans.{AllPairs, AreEntriesOf, AreRowsOf, Scans, lines_behind}}
+use Rattle.rio_session.specs.{Causes.{IsSaid}, Fills.{FilledTree, bare, bare_tree, is_tree_of, places_of_fill, places_of_trees}, HeldBaskets.{IsTreeStored}, Gets.{PrintsTold}, Replying.{Replies, printed_of}, Says.{SaysReply}, ScanReplies.{TellsRows}, Scans.{AllPairs, AreEntriesOf, AreRowsOf, Scans, lines_behind}}
 use Rattle.rio_session.specs.{SessionState.{SessionState}, declared.fault.SessionFault.{SessionFault, TheVariants.{HostFault, SayFault, NoMemory}}}
-use Rattle.rio_session.proofs.{Bare.{all_places, bare_found, defs_bare}, FilledTrees.{found_among, found_name}, OtherSteps.{begins_record}, Replies.{reads_then_says}}
+use Rattle.rio_session.proofs.{Bare.{all_places, bare_found, defs_bare}, FilledTrees.{found_among, found_name}, OtherSteps.{begins_record}, OnlyReplies.{reads_then_says}}
 
 -- ---- without the rooms
 
@@ -95,11 +95,11 @@ all_printed n count lines (Err (KindChanged member)) had all is = subst (λ (m :
 all_printed n count lines (Err NoVersion) had all is = subst (λ (m : Mapped (List ℕ)). IfOk m (λ t. n ≡ count)) (sym (is (λ e. cc))) tt
 all_printed n count lines (Err OutOfMemory) had all is = absurd (had refl)
 
-module _ (name : List ℕ) (class : Option Base) (t : FilledTree) (old : View) (s after : SessionState) where
+module _ (replies : Replies) (name : List ℕ) (class : Option Base) (t : FilledTree) (old : View) (s after : SessionState) where
   -- what was read is printed
   pub tells_scan : (mid new : View) (answer : Result Outcome SessionFault) (told : Result Room MapFault) → IsLawful mid → OnlyReads old mid → mid.disk_faults ≡ old.disk_faults
       → Scans old s.segments s.classes class t.fill (scan_start name (entry_count t.fill)) (λ text. text.bytes) told
-      → ((meant : Mapped (List ℕ)) → GivesUnless OutOfMemory (λ text. text.bytes) told meant → PrintsTold meant mid new s after answer) → (told ≡ Err OutOfMemory → IsErrOf answer NoMemory) → TellsRows name class t old new s after answer
+      → ((meant : Mapped (List ℕ)) → GivesUnless OutOfMemory (λ text. text.bytes) told meant → PrintsTold replies meant mid new s after answer) → (told ≡ Err OutOfMemory → IsErrOf answer NoMemory) → TellsRows replies name class t old new s after answer
   tells_scan mid new answer told law calls disk scans prints lacks =
       let lines = lines_behind s.classes class 0 (scan_start name (entry_count t.fill)) scans.rows in
       let p = prints lines scans.lines in
@@ -111,13 +111,13 @@ module _ (name : List ℕ) (class : Option Base) (t : FilledTree) (old : View) (
           text = p.text;
           outcome = p.outcome;
           reply = p.reply;
-          says = reads_then_says p.text old mid new law calls disk 0 s after answer p.says;
+          says = reads_then_says (printed_of replies p.text) old mid new law calls disk 0 s after answer p.says;
           outcome_is = p.outcome_is;
         };
       }
 
   -- nothing was printed
-  pub tells_nothing : (new : View) (fault : SessionFault) → (IsSaid {X = Outcome} (Err fault) → ⊥) → SaysReply {X = Outcome} [] 0 old new s after (Err fault) → TellsRows name class t old new s after (Err fault)
+  pub tells_nothing : (new : View) (fault : SessionFault) → (IsSaid {X = Outcome} (Err fault) → ⊥) → SaysReply {X = Outcome} (printed_of replies []) 0 old new s after (Err fault) → TellsRows replies name class t old new s after (Err fault)
   tells_nothing new fault silent says = record {
     rows = [];
     count = λ spoken. absurd (silent spoken);

@@ -1,24 +1,22 @@
 -- What a scan does, in all clauses.
-use Rattle.std.proofs.Common.{◌≡◌, inl, inr, ℕ, zero, suc, ◌+◌, ◌<◌, arith, false, List, [], ◌∷◌, length, Option, Some, None, Result, Ok, Err, IfOk, refl, sym, ap, subst, ◌∙◌}
-use Rattle.std.specs.{Prelude.{IsSome}, List.{All, AllByRecursion, find}}
-use Rattle.rio_num.specs.Reading.{◌>>=◌}
+use Rattle.std.proofs.Common.{◌≡◌, ℕ, ◌+◌, false, List, [], ◌∷◌, Option, Some, None, Result, Ok, Err, IfOk, refl, sym, subst, ◌∙◌}
+use Rattle.std.specs.{Prelude.{IsSome}, List.{find}}
 use Rattle.rio_host.specs.Host.{IsLawful, View}
 use Rattle.rio_types.specs.declared.{class.Base.{Base}, class.ClassDef.{ClassDef}}
 use Rattle.rio_key.specs.declared.head.KeyHead.{KeyHead}
 use Rattle.rio_fill.specs.Fill.{entry_count}
-use Rattle.rio_machine.specs.{State.{State, Tree}}
+use Rattle.rio_machine.specs.State.{State, Tree}
 use Rattle.rio_machine.specs.declared.command.Command.{Command, TheVariants.{Bad, Class, Put, Delete, Tree as MakeTree, Fill, Save, Get, Scan, Ls}}
 use Rattle.rio_machine.specs.declared.command.Outcome.{Outcome, TheVariants.{Accepted}}
 use Rattle.rio_model.specs.Mapping.{Mapped}
 use Rattle.rio_reply.specs.Scanned.{scan_start}
 use Rattle.rio_step.specs.Refusing.{rows_of_tree}
 use Rattle.rio_judge.proofs.TreeFacts.{key_named}
-use Rattle.rio_state.proofs.Members.{In}
 use Rattle.rio_judge.specs.Trees.{IsJudgementOfItems, IsVersionKnown, TreeWorkCanBeDone}
 use Rattle.rio_judge.specs.declared.work.{AnyWork.TheVariants.{Tree as OfTree}, JudgedWithTrees.TheVariants.{Accepted as Judgement}, TreeWork.TheVariants.{Scan as Telling}}
-use Rattle.rio_session.specs.{Behind.{IsOfKeys, IsToldByKeys}, Causes.{IsSaid}, Doable.{IsToDo}, Does.{Does}, Due.{IsBranchSound, IsClosableWith}, Fills.{FilledTree, is_tree_of}, Gets.{IsReplyTo}, ScanReplies.{TellsRows}, Scans.{FoundRow, lines_behind}, Sound.{IsSoundState}}
+use Rattle.rio_session.specs.{Behind.{IsOfKeys, IsToldByKeys}, Causes.{IsSaid}, Doable.{IsToDo}, Does.{Does}, Fills.{FilledTree, is_tree_of}, Gets.{IsReplyTo}, Replying.{Replies}, ScanReplies.{TellsRows}, Scans.{FoundRow, lines_behind}, Sound.{IsSoundState}}
 use Rattle.rio_session.specs.{Session.{IsReady, SessionState, StandsFor, with_cost}, SessionState.{kept_trees}, declared.fault.SessionFault.{SessionFault}}
-use Rattle.rio_session.proofs.{FilledTrees.{IsFilledOf, found_among, tree_of_fill}, GetSteps.{some_of}, Replies.{IsOutcomeOf, does_reply}, ScanLines.{printed}, ScanRows.{rows_told}, ScanSteps.{IsScanSaid, scan_lacks, scan_plain, scan_said, scan_still}, States.{of_keys}}
+use Rattle.rio_session.proofs.{FilledTrees.{IsFilledOf, tree_of_fill}, GetSteps.{some_of}, OnlyReplies.{IsOutcomeOf, does_reply}, ScanLines.{printed}, ScanRows.{rows_told}, ScanSteps.{IsScanSaid, scan_lacks, scan_plain, scan_said, scan_still}, States.{of_keys}}
 
 -- ---- which command it is
 
@@ -52,13 +50,13 @@ plain_accepts classes class before text rows outcome none reply =
     let all = plain_lines classes 0 before rows in
     (subst (λ (m : Mapped (List ℕ)). IsReplyTo m text outcome) ((λ i. lines_behind classes (none i) 0 before rows) ∙ all.1) reply).1
 
-module _ (old new : View) (s s' : SessionState) (law : IsLawful old) (law' : IsLawful new) (ready : IsReady old s) (fresh : s.failed ≡ false) (answer : Result Outcome SessionFault) where
+module _ (replies : Replies) (old new : View) (s s' : SessionState) (law : IsLawful old) (law' : IsLawful new) (ready : IsReady old s) (fresh : s.failed ≡ false) (answer : Result Outcome SessionFault) where
   its_outcome : (c : Command) (became : Outcome) (a : Result Outcome SessionFault) → (IsSaid a → IsOutcomeOf old s c became) → IfOk a (λ outcome. outcome ≡ became) → IfOk a (IsOutcomeOf old s c)
   its_outcome c became (Ok outcome) of is = subst (IsOutcomeOf old s c) (sym is) (of tt)
   its_outcome c became (Err e) of is = tt
 
   module _ (name : List ℕ) (h : KeyHead) (class : Option Base) (sound : IsSoundState s) (known : IsVersionKnown s.classes class) (t : FilledTree) (found : find (is_tree_of name) s.trees ≡ Some t)
-      (judged : IsJudgementOfItems s.classes s.heads (kept_trees s) (Scan name class) (Judgement (OfTree (Telling h class)))) (tells : TellsRows name class t old new s s' answer) where
+      (judged : IsJudgementOfItems s.classes s.heads (kept_trees s) (Scan name class) (Judgement (OfTree (Telling h class)))) (tells : TellsRows replies name class t old new s s' answer) where
     its_tree : (m : State) → IsOfKeys s m → (x : Tree) × IsFilledOf s m name t x
     its_tree m keys = tree_of_fill s m keys name t found
 
@@ -85,9 +83,9 @@ module _ (old new : View) (s s' : SessionState) (law : IsLawful old) (law' : IsL
         by_class None by_keys is = is refl
         by_class (Some asked) by_keys is = absurd by_keys
 
-    pub scan_does : Does old new s s' (Scan name class) answer
+    pub scan_does : Does replies old new s s' (Scan name class) answer
     scan_does =
-        does_reply old new s s' tells.prints.text 0 law law' ready (Scan name class) answer fresh tells.prints.says
+        does_reply replies old new s s' tells.prints.text 0 law law' ready (Scan name class) answer fresh tells.prints.says
         (λ spoken m keys. scan_still s m keys (sound.kept fresh) name class)
         (λ spoken m said st. (said_of spoken m said st).0)
         (its_outcome (Scan name class) tells.prints.outcome answer becomes tells.prints.outcome_is)
@@ -95,10 +93,10 @@ module _ (old new : View) (s s' : SessionState) (law : IsLawful old) (law' : IsL
 
   -- the scan of a tree whose key is the session's
   pub scan_is_done : (c : Command) (h : KeyHead) (class : Option Base) → IsToDo s c (OfTree (Telling h class)) → IsSome (find (is_tree_of h.name) s.trees) → IsSoundState s
-      → ((t : FilledTree) → find (is_tree_of h.name) s.trees ≡ Some t → TellsRows h.name class t old new s s' answer) → Does old new s s' c answer
+      → ((t : FilledTree) → find (is_tree_of h.name) s.trees ≡ Some t → TellsRows replies h.name class t old new s s' answer) → Does replies old new s s' c answer
   scan_is_done c h class todo some sound tells =
       let is = is_scan s.classes s c h class todo.can in
       let t = some_of (find (is_tree_of h.name) s.trees) some in
       let judged : IsJudgementOfItems s.classes s.heads (kept_trees s) (Scan h.name class) (Judgement (OfTree (Telling h class))) =
       subst (λ (x : Command). IsJudgementOfItems s.classes s.heads (kept_trees s) x (Judgement (OfTree (Telling h class)))) is.command todo.judged in
-      subst (λ (x : Command). Does old new s s' x answer) (sym is.command) (scan_does h.name h class sound is.known t.0 t.1 judged (tells t.0 t.1))
+      subst (λ (x : Command). Does replies old new s s' x answer) (sym is.command) (scan_does h.name h class sound is.known t.0 t.1 judged (tells t.0 t.1))

@@ -13,7 +13,7 @@ use Rattle.rio_step.specs.{ReplyText.{text_of}, Step.{or_unmapped, outcome_of, r
 use Rattle.rio_judge.specs.{Judging.{refused_by_object}, Trees.{IsVersionKnown}}
 use Rattle.rio_session.specs.{Behind.{IsOfKeys, IsToldByKeys}, Due.{IsClosableWith}, Gets.{IsReplyTo}, Marks.{command_lengths}, Scans.{rows_printed}, Session.{LacksRoomIfFull, SessionState, next_of}}
 use Rattle.rio_session.proofs.OtherSteps.{accepted_outcome, accepted_still, accepted_told, refused_lacks, refused_outcome, refused_still, refused_told}
-use Rattle.rio_session.proofs.{Refused.{cost_accepted}, Replies.{IsStill}}
+use Rattle.rio_session.proofs.{Refused.{cost_accepted}, OnlyReplies.{IsStill}}
 
 -- this is said of it, and that becomes of it
 abbrev pub IsScanSaid : SessionState → State → List ℕ → Option Base → List ℕ → Outcome → Type 0
@@ -130,5 +130,5 @@ module _ (s : SessionState) (m : State) (keys : IsOfKeys s m) (kept : IsClosable
     where
       by : (asked : Option Base) → IsToldByKeys (Scan name asked) → refusal_of m (Scan name asked) None ≡ change_in (rows_seen_in m.classes asked (rows_of_tree x))
           → (refusal_of m (Scan name asked) None ≡ None → outcome_of (next_of s m (Scan name asked)).reply ≡ Accepted) → outcome_of (next_of s m (Scan name asked)).reply ≡ Accepted
-      by None by_keys refuses accepts = accepts (refuses ∙ ap change_in (seen_plain m.classes (rows_of_tree x)))
-      by (Some asked) by_keys refuses accepts = absurd by_keys
+      by None by_keys by_rows accepts = accepts (by_rows ∙ ap change_in (seen_plain m.classes (rows_of_tree x)))
+      by (Some asked) by_keys by_rows accepts = absurd by_keys

@@ -1,5 +1,5 @@
 -- What was said, whatever was told before.
-use Rattle.std.proofs.{Common.{◌≡◌, ℕ, List, [], ◌++◌, length, take, Option, Some, None, sym, ap, ◌∙◌}, Math.Seq.{take-length}, lemmas.List.{append-nil}}
+use Rattle.std.proofs.{Common.{◌≡◌, ℕ, List, [], ◌++◌, length, take, Option, Some, None, refl, sym, ap, ◌∙◌}, Math.Seq.{take-length}, lemmas.List.{append-nil}}
 use Rattle.rio_host.specs.{Host.{Becomes, Elapses, Leaves, Longer, LongerByPart, Speaking, View}, OnlyReads.{Grown, OnlyReads}}
 use Rattle.rio_host.proofs.{Images.{becomes_as, becomes_some}, Moments.{elapses_as}}
 use Rattle.rio_session.specs.Behind.{SaysPart, Stays}
@@ -13,10 +13,19 @@ pub grows_none : (a b : Option (List ℕ)) → b ≡ a → Becomes Grown a b
 grows_none (Some x) b same = (x, same, ([], sym (append-nil x)))
 grows_none None b same = same
 
--- ---- fronts of a reply
-
 abbrev some_text : List ℕ → Option (List ℕ)
 some_text l = Some l
+
+-- an empty text makes it no longer
+pub same_if_empty : (a b : Option (List ℕ)) → Becomes (Longer []) a b → b ≡ a
+same_if_empty (Some x) b is = is.1 ∙ ap some_text (is.2 ∙ append-nil x)
+same_if_empty None b is = is
+
+pub empty_if_same : (a : Option (List ℕ)) → Becomes (Longer []) a a
+empty_if_same (Some x) = (x, refl, sym (append-nil x))
+empty_if_same None = refl
+
+-- ---- fronts of a reply
 
 pub front_whole : (old new : View) (said text reply : List ℕ) → old.said ≡ Some said → text ≡ reply → Becomes (Longer text) old.said new.said → SaysPart new said reply
 front_whole old new said text reply told same is =

@@ -6,7 +6,7 @@ use Rattle.rio_host.proofs.Images.{becomes_join}
 use Rattle.rio_chain.specs.{Becoming.{ChainBecomes}, Chains.{ChainState, HasChain, HoldsChain}, Segments.{Link}, Stops.{IsEither}}
 use Rattle.rio_session.specs.{Changing.{ChangesInTime, Changing, IsUnderway, links_at}, Kept.{LinksChange}, SessionState.{SessionState}}
 use Rattle.rio_session.specs.{Steps.{CanRun, CanStep, all_stepped, change_of, changes_of, stepped}, declared.steps.Step.{Step}}
-use Rattle.rio_session.proofs.{Moments.{more_in_time, nothing_yet, one_more}, Replies.{told_same}}
+use Rattle.rio_session.proofs.{Moments.{more_in_time, nothing_yet, one_more}, OnlyReplies.{told_same}}
 
 -- the first k steps are done
 pub record Making (start now : View) (before : ChainState) (steps : List Step) (k : ℕ) (chain : ChainState) : Type 0 where

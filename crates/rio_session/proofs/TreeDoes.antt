@@ -3,7 +3,6 @@ use Rattle.std.proofs.Common.{◌≡◌, ◌∙◌, ℕ, ◌+◌, ◌-◌, ◌*�
 use Rattle.rio_host.specs.Host.{IsLawful, View}
 use Rattle.rio_types.specs.declared.class.ClassDef.{ClassDef}
 use Rattle.rio_key.specs.declared.head.KeyHead.{KeyHead}
-use Rattle.rio_leaf.specs.declared.branch.BranchDef.{BranchDef}
 use Rattle.rio_chain.specs.{Adjoining.{AreSegments}, Placing.{file_end, record_count}}
 use Rattle.rio_machine.specs.{State.{State, empty_state}, declared.command.Command.{Command, TheVariants.{Bad, Class, Put, Delete, Tree as MakeTree, Fill, Save, Get, Scan, Ls}}}
 use Rattle.rio_machine.specs.{declared.command.Outcome.{Outcome, TheVariants.{Accepted, Refused}}, declared.refusal.Refusal.TheVariants.{Full}}
@@ -16,8 +15,8 @@ use Rattle.rio_effect.proofs.Held.{chain_segments}
 use Rattle.rio_judge.specs.{Judging.{refused_by_object}, Trees.{IsTreeWorkOf, TreeWorkCanBeDone}, declared.work.NewTree.{NewTree}}
 use Rattle.rio_judge.specs.declared.work.{AnyWork.TheVariants.{Tree as OfTree}, TreeWork.TheVariants.{Make as Making}}
 use Rattle.rio_session.specs.{Behind.{IsOfKeys}, Changing.{ChangesFile}, Doable.{IsNewTree, IsToDo}, Does.{Does}, Due.{IsClosableWith, need_with}, Effects.{IsChangeOf, TakesEffect}, Fillings.{Done, both_done, heading, listing_if_none, making}, Kept.{kept_by}, Marks.{command_lengths, state_need}}
-use Rattle.rio_session.specs.{Says.{SaysReply}, Session.{HoldsState, IsReady, LacksRoomIfFull, SessionState, next_of, with_cost}, SessionState.{kept_trees}, Sound.{IsSoundState}, TreePlans.{head_now, making_now, need_of_tree}, TreeWorks.{doing}, declared.fault.SessionFault.{SessionFault}}
-use Rattle.rio_session.proofs.{Changed.{does_change}, FullCommands.{full_outcome, full_still, full_told}, LacksBehind.{lacks_behind}, PlanRoom.{plan_full_is}, Replies.{IsStill, does_says}, States.{of_keys}}
+use Rattle.rio_session.specs.{Replying.{Replies, reply_text}, Says.{SaysReply}, Session.{HoldsState, IsReady, LacksRoomIfFull, SessionState, next_of, with_cost}, SessionState.{kept_trees}, Sound.{IsSoundState}, TreePlans.{head_now, making_now, need_of_tree}, TreeWorks.{doing}, declared.fault.SessionFault.{SessionFault}}
+use Rattle.rio_session.proofs.{Changed.{does_change}, FullCommands.{full_outcome, full_still, full_told}, LacksBehind.{lacks_behind}, PlanRoom.{plan_full_is}, OnlyReplies.{IsStill, does_says}, States.{of_keys}}
 use Rattle.rio_session.proofs.{TreeEffects.{after_is, filled, tree_ended, tree_takes_effect_on}, TreeKept.{tree_need_then}, TreeMaking.{making_end}, TreeRoom.{tree_need_is}, TreeSteps.{making_same, tree_cost_is, tree_is_change, tree_lengths_are}}
 
 is_make : (classes : List ClassDef) (heads : List KeyHead) (trees : List KeptTree) (c : Command) (t : NewTree) → TreeWorkCanBeDone classes heads trees c (Making t) → c ≡ MakeTree t.name t.branches
@@ -32,7 +31,7 @@ is_make classes heads trees (Get name asked version) t can = absurd can
 is_make classes heads trees (Scan name class) t can = absurd can
 is_make classes heads trees Ls t can = absurd can
 
-module _ (headers : HeadersHaveRecords) (old new : View) (s s' : SessionState) (law : IsLawful old) (law' : IsLawful new) (ready : IsReady old s) (fresh : s.failed ≡ false) (sound : IsSoundState s) (soon : s.datime < 2 ^ 32)
+module _ (replies : Replies) (headers : HeadersHaveRecords) (old new : View) (s s' : SessionState) (law : IsLawful old) (law' : IsLawful new) (ready : IsReady old s) (fresh : s.failed ≡ false) (sound : IsSoundState s) (soon : s.datime < 2 ^ 32)
     (answer : Result Outcome SessionFault) (t : NewTree) (own : IsNewTree s t) (cost : ℕ) (cost_is : cost ≡ 600 + info_size s.classes + 2 * header_size t.name t.branches) (c : Command) (todo : IsToDo s c (OfTree (Making t))) where
   abbrev make : Command
   make = MakeTree t.name t.branches
@@ -129,11 +128,13 @@ module _ (headers : HeadersHaveRecords) (old new : View) (s s' : SessionState) (
       still_fresh None = fresh
       still_fresh (Some k) = fresh
 
-  pub tree_is_done : (text : List ℕ) → text ≡ text_of (tree_made t.name 1) → is_full s.segments (making_now s t.name t.branches).lengths (need_of_tree s t.name (length (making_now s t.name t.branches).lengths)) ≡ false
-      → ChangesFile (doing (making_now s t.name t.branches) text cost) old new s s' answer → IfOk answer (λ outcome. outcome ≡ Accepted) → Does old new s s' c answer
+  pub tree_is_done : (text : List ℕ) → text ≡ reply_text replies (tree_made t.name 1) → is_full s.segments (making_now s t.name t.branches).lengths (need_of_tree s t.name (length (making_now s t.name t.branches).lengths)) ≡ false
+      → ChangesFile (doing (making_now s t.name t.branches) text cost) old new s s' answer → IfOk answer (λ outcome. outcome ≡ Accepted) → Does replies old new s s' c answer
   tree_is_done text text_is room changes accepted =
-      subst (λ (d : Command). Does old new s s' d answer) (sym command_is)
-      (does_change (doing done text cost) old new s s' law ready make answer fresh fresh_then law' changes refl (λ m keys. is_change m keys text text_is room) takes accepted)
+      subst (λ (d : Command). Does replies old new s s' d answer) (sym command_is)
+      (does_change replies (doing done (text_of (tree_made t.name 1)) cost) old new s s' law ready make answer fresh fresh_then law'
+      (subst (λ (l : List ℕ). ChangesFile (doing done l cost) old new s s' answer) text_is changes) refl
+      (λ m keys. is_change m keys (text_of (tree_made t.name 1)) refl room) takes accepted)
 
   same_full : (a : Result Outcome SessionFault) → is_full s.segments (making_now s t.name t.branches).lengths (need_of_tree s t.name (length (making_now s t.name t.branches).lengths)) ≡ true
       → IfOk a (λ outcome. outcome ≡ Refused (Full (file_end s.segments) (sum (making_now s t.name t.branches).lengths))) → IfOk a (λ outcome. (m : State) → IsOfKeys s m → outcome ≡ outcome_of (next_of s m (MakeTree t.name t.branches)).reply)
@@ -142,12 +143,12 @@ module _ (headers : HeadersHaveRecords) (old new : View) (s s' : SessionState) (
 
   pub tree_is_full : (end wanted : ℕ) → end ≡ file_end s.segments → wanted ≡ sum (making_now s t.name t.branches).lengths
       → is_full s.segments (making_now s t.name t.branches).lengths (need_of_tree s t.name (length (making_now s t.name t.branches).lengths)) ≡ true
-      → SaysReply (text_of (refused (Full end wanted))) cost old new s s' answer → IfOk answer (λ outcome. outcome ≡ Refused (Full end wanted)) → Does old new s s' c answer
+      → SaysReply (reply_text replies (refused (Full end wanted))) cost old new s s' answer → IfOk answer (λ outcome. outcome ≡ Refused (Full end wanted)) → Does replies old new s s' c answer
   tree_is_full end wanted end_is wanted_is full says became =
-      let its_says = subst (λ (p : ℕ × ℕ). SaysReply (text_of (refused (Full p.0 p.1))) cost old new s s' answer) (λ i. (end_is i, wanted_is i)) says in
+      let its_says = subst (λ (p : ℕ × ℕ). SaysReply (reply_text replies (refused (Full p.0 p.1))) cost old new s s' answer) (λ i. (end_is i, wanted_is i)) says in
       let its_outcome = subst (λ (p : ℕ × ℕ). IfOk answer (λ outcome. outcome ≡ Refused (Full p.0 p.1))) (λ i. (end_is i, wanted_is i)) became in
-      subst (λ (d : Command). Does old new s s' d answer) (sym command_is)
-      (does_says old new s s' (text_of (refused (Full (file_end s.segments) (sum done.lengths)))) cost law law' ready make answer fresh its_says
+      subst (λ (d : Command). Does replies old new s s' d answer) (sym command_is)
+      (does_says replies old new s s' (text_of (refused (Full (file_end s.segments) (sum done.lengths)))) cost law law' ready make answer fresh its_says
       (λ spoken m keys. still m keys full)
       (λ spoken m said st. told m (of_keys s m st.file st.state) full)
       (same_full answer full its_outcome)

@@ -1,8 +1,8 @@
 -- What it is to change the records of a file, one change after the other, and to print a text then.
-use Rattle.std.specs.Prelude.{◌≡◌, ◌⊎◌, ◌<◌, ◌≤◌, ℕ, true, List, ◌++◌, length, take, Some, Result, Ok, Err}
+use Rattle.std.specs.Prelude.{◌≡◌, ◌⊎◌, ◌<◌, ◌≤◌, ℕ, true, List, [], ◌++◌, length, take, Some, Result, Ok, Err}
 use Rattle.rio_host.specs.Host.{Any, Becomes, Elapses, IsQuiet, Longer, LongerByPart, View}
 use Rattle.rio_chain.specs.{Becoming.{ChainBecomes}, Chains.{HasChain}, Segments.{IsChain, Link}, Stops.{KeepsFront}, declared.segment.Segment.{Segment}}
-use Rattle.rio_session.specs.{Causes.{DiskRose, NoCountRose, SayRose}, Kept.{LinksChange, all_done}, Says.{NotDone}, SessionState.{SessionState, with_cost}}
+use Rattle.rio_session.specs.{Causes.{DiskRose, NoCountRose, SayRose}, Kept.{LinksChange, all_done}, Replying.{Replies, printed_of}, Says.{NotDone}, SessionState.{SessionState, with_cost}}
 use Rattle.rio_session.specs.declared.fault.SessionFault.{SessionFault, TheVariants.{HostFault, SayFault, NoMemory}}
 
 -- The changes, what is kept after them but for the cost, what is printed then, and the cost.
@@ -34,6 +34,10 @@ pub record IsBetween (p : Changing) (file said : List ℕ) (links : List Link) (
 abbrev pub ChangesInTime : Changing → View → View → SessionState → Type 0
 ChangesInTime p old new before = (file said : List ℕ) (links : List Link) → old.holds ≡ Some file → old.said ≡ Some said → HasChain links before.segments file
     → Elapses old new (IsBetween p file said links)
+
+-- The same changes, where the text is printed or omitted.
+abbrev pub printing : Replies → Changing → Changing
+printing replies p = record p { text = printed_of replies p.text }
 
 -- each change was reached
 abbrev pub ReachesAll : Changing → View → SessionState → Type 0
@@ -76,6 +80,7 @@ pub record ChangedNotSaid (p : Changing) (old new : View) (before after : Sessio
   pub quiet : IsQuiet new
   pub told : Becomes Any old.holds new.holds
   pub says : Becomes (LongerByPart p.text) old.said new.said
+  pub some : p.text ≡ [] → ⊥
   pub faults : SayRose old new
   pub failed : after.failed ≡ true
 

@@ -40,7 +40,7 @@ pub record TakesEffect (s : SessionState) (m : State) (c : Command) (links : Lis
   pub late : (k : ℕ) → turn < k → k ≤ length (changes_by s m c) → ArePassed s m c k links → AreRecordsOf (keyed_records (links_by s m c k links)) (saved_of (state_behind m c))
   pub ends : ArePassed s m c (length (changes_by s m c)) links → IsKeptAfter s m c links (all_done (changes_by s m c) links)
 
--- the command's changes, with what is kept, printed and counted, for a state of the kept keys that doesn't refuse it
+-- the command's changes, with what is kept, the reply and the cost, for a state of the kept keys that doesn't refuse it
 pub record IsChangeOf (p : Changing) (s : SessionState) (m : State) (c : Command) : Type 0 where
   pub free : refusal_of m c (mark_of_command s m c) ≡ None
   pub changes : p.changes ≡ changes_by s m c

@@ -9,7 +9,7 @@ use Rattle.rio_machine.specs.{declared.command.Outcome.{Outcome, TheVariants.{Ac
 use Rattle.rio_chain.specs.{Chains.{HasChain}, Segments.{Link, RecordAt}, Walks.{Told}, declared.segment.Segment.{Segment}}
 use Rattle.rio_step.specs.{ReplyText.{text_of}, Step.{refused}}
 use Rattle.rio_reply.specs.Told.{record_told_as, told_of}
-use Rattle.rio_session.specs.{Causes.{IsSaid}, Says.{SaysReply}, Session.{SessionState}, declared.fault.SessionFault.{SessionFault}}
+use Rattle.rio_session.specs.{Causes.{IsSaid}, Replying.{Replies, printed_of}, Says.{SaysReply}, Session.{SessionState}, declared.fault.SessionFault.{SessionFault}}
 
 -- ---- what is told
 
@@ -25,23 +25,23 @@ HoldsRecord v segments place bytes = Told v (λ file. (links : List Link) → Ha
 
 -- ---- what is said
 
--- the text is said, or the refusal, and that becomes of the command
+-- the text is the reply, or the refusal, and that becomes of the command
 abbrev pub IsReplyTo : Mapped (List ℕ) → List ℕ → Outcome → Type 0
 IsReplyTo (Ok told) text outcome = (text ≡ told) × (outcome ≡ Accepted)
 IsReplyTo (Err (Changed member)) text outcome = (text ≡ text_of (refused (KindChanged member))) × (outcome ≡ Refused (KindChanged member))
 IsReplyTo (Err Missing) text outcome = (text ≡ text_of (refused NoVersion)) × (outcome ≡ Refused NoVersion)
 IsReplyTo (Err NoMemory) text outcome = ⊥
 
--- what is told is said
-pub record PrintsTold (told : Mapped (List ℕ)) (old new : View) (before after : SessionState) (answer : Result Outcome SessionFault) : Type 0 where
+-- what is told is printed, or omitted
+pub record PrintsTold (replies : Replies) (told : Mapped (List ℕ)) (old new : View) (before after : SessionState) (answer : Result Outcome SessionFault) : Type 0 where
   pub text : List ℕ
   pub outcome : Outcome
   pub reply : IsSaid answer → IsReplyTo told text outcome
-  pub says : SaysReply text 0 old new before after answer
+  pub says : SaysReply (printed_of replies text) 0 old new before after answer
   pub outcome_is : IfOk answer (λ o. o ≡ outcome)
 
--- what is told of the object of this key, by the bytes of its record, is said
-pub record TellsObject (head : KeyHead) (asked : Option ℤ) (old new : View) (before after : SessionState) (answer : Result Outcome SessionFault) : Type 0 where
+-- what is told of the object of this key, by the bytes of its record, is printed or omitted
+pub record TellsObject (replies : Replies) (head : KeyHead) (asked : Option ℤ) (old new : View) (before after : SessionState) (answer : Result Outcome SessionFault) : Type 0 where
   pub bytes : List ℕ
   pub there : IsSaid answer → HoldsRecord old before.segments head.seek bytes
-  pub prints : PrintsTold (record_told before.classes head asked bytes) old new before after answer
+  pub prints : PrintsTold replies (record_told before.classes head asked bytes) old new before after answer

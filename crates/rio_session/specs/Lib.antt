@@ -22,6 +22,7 @@ pub mod Noted
 pub mod Opening
 pub mod Puts
 pub mod Releases
+pub mod Replying
 pub mod RowPlans
 pub mod SavePlans
 pub mod Says

@@ -1,5 +1,5 @@
 -- What it is to say a reply, and what a command that does no more answers.
-use Rattle.std.specs.Prelude.{◌≡◌, ℕ, ◌+◌, ◌-◌, ◌^◌, min, true, List, Result, Ok, Err}
+use Rattle.std.specs.Prelude.{◌≡◌, ℕ, ◌+◌, ◌-◌, ◌^◌, min, true, List, [], Result, Ok, Err}
 use Rattle.rio_host.specs.{Host.{Becomes, Elapses, Longer, LongerByPart, Speaking, View}, OnlyReads.{OnlyReads}}
 use Rattle.rio_session.specs.{Causes.{DiskRose, NoCountRose, SayRose}, Session.{SessionState}}
 use Rattle.rio_session.specs.declared.fault.SessionFault.{SessionFault, TheVariants.{HostFault, SayFault, NoMemory}}
@@ -12,11 +12,12 @@ pub record Said (text : List ℕ) (cost : ℕ) (old new : View) (before after : 
   pub faults : NoCountRose old new
   pub kept : after ≡ record before { costs = min (before.costs + cost) (2 ^ 64 - 1) }
 
--- the text could not be said, but for a front of it
+-- The text could not be said, but for a front of it. An empty text isn't said, so that can't fail.
 pub record NotSaid (text : List ℕ) (old new : View) (after : SessionState) : Type 0 where
   pub time : Elapses old new (Speaking text old)
   pub holds : new.holds ≡ old.holds
   pub says : Becomes (LongerByPart text) old.said new.said
+  pub some : text ≡ [] → ⊥
   pub faults : SayRose old new
   pub failed : after.failed ≡ true
 

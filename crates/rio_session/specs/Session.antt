@@ -5,12 +5,12 @@ use Rattle.rio_host.specs.Host.{Elapses, IsQuiet, Leaves, View}
 use Rattle.rio_chain.specs.{Chains.{HasChain, HoldsChain}, Placing.{record_count}, Segments.{Link}}
 use Rattle.rio_machine.specs.{State.{State, Tree}, declared.command.Command.{Command}, declared.command.Outcome.{Outcome, TheVariants.{Refused}}}
 use Rattle.rio_machine.specs.declared.refusal.Refusal.TheVariants.{Full}
-use Rattle.rio_step.specs.{Costs.{cost_of, room_limit}, ReplyText.{text_of}, Runs.{saved_of, states_of_run}, Step.{Stepped, outcome_of, step}, Storable.{IsFillable}}
+use Rattle.rio_step.specs.{Costs.{cost_of, room_limit}, Runs.{saved_of, states_of_run}, Step.{Stepped, outcome_of, step}, Storable.{IsFillable}}
 use Rattle.rio_state.specs.{Closing.{held_with, kept_in, kept_with}, TreeLengths.{pending_in}, DirectoryKeys.{AreKeysOf}, KeyedRecords.{info_key, keyed_records}}
 use Rattle.rio_state.specs.{Left.{HasOpenHead, IsLeftAs, IsMarkedOpen, info_head}, Reads.{AreRecordsOf}}
 use Rattle.rio_effect.specs.{AllItems.{AreAllItems}, TreeChanges.{FileRecords, cuts_of_tree}, TreeCommands.{KeepsTree}}
 use Rattle.rio_recover.specs.Trees.{AreTreesOf}
-use Rattle.rio_session.specs.{Fills.{FilledTree, is_tree_of, put_in}, Items.{IsOfKeys}, Kept.{kept_after}, Marks.{mark_of_command}}
+use Rattle.rio_session.specs.{Fills.{FilledTree, is_tree_of, put_in}, Items.{IsOfKeys}, Kept.{kept_after}, Marks.{mark_of_command}, Replying.{Replies, reply_text}}
 pub use Rattle.rio_session.specs.SessionState.{SessionState, headers_of, with_cost}
 
 -- ---- what it stands for
@@ -71,10 +71,10 @@ pub record IsOpenAs (m : State) (image : List ℕ) : Type 0 where
 abbrev pub LeavesOpenAs : View → State → Type 0
 LeavesOpenAs v m = (image said : List ℕ) → Leaves v image said → IsOpenAs m image
 
--- While a command is done: the state of before with the text of before, or the state of after with a front of the reply.
-abbrev pub Steps : State → Stepped → List ℕ → List ℕ → List ℕ → Type 0
-Steps m next text image said =
-    (IsOpenAs m image × (said ≡ text)) ⊎ (IsOpenAs next.state image × ((k : ℕ) × (said ≡ text ++ take k (text_of next.reply))))
+-- While a command is done: the state of before with the text of before, or the state of after with a prefix of what is printed of the reply.
+abbrev pub Steps : Replies → State → Stepped → List ℕ → List ℕ → List ℕ → Type 0
+Steps replies m next text image said =
+    (IsOpenAs m image × (said ≡ text)) ⊎ (IsOpenAs next.state image × ((k : ℕ) × (said ≡ text ++ take k (reply_text replies next.reply))))
 
 -- the command's step, with its mark
 abbrev pub next_of : SessionState → State → Command → Stepped
@@ -90,10 +90,10 @@ abbrev pub LacksRoomIfFull : SessionState → Outcome → Type 0
 LacksRoomIfFull s (Refused (Full end wanted)) = room_limit < 3 * s.opened + s.costs
 LacksRoomIfFull s other = Unit {0}
 
--- a command is done and its reply is said
-pub record Went (old new : View) (before s : SessionState) (m : State) (c : Command) (text : List ℕ) (outcome : Outcome) : Type 0 where
-  pub time : Elapses old new (Steps m (next_of before m c) text)
-  pub stands : StandsFor new s (next_of before m c).state (text ++ text_of (next_of before m c).reply)
+-- a command is done, and its reply printed or omitted
+pub record Went (replies : Replies) (old new : View) (before s : SessionState) (m : State) (c : Command) (text : List ℕ) (outcome : Outcome) : Type 0 where
+  pub time : Elapses old new (Steps replies m (next_of before m c) text)
+  pub stands : StandsFor new s (next_of before m c).state (text ++ reply_text replies (next_of before m c).reply)
   pub follows : FollowsCommand before s m c
   pub outcome_is : outcome ≡ outcome_of (next_of before m c).reply
   pub full : LacksRoomIfFull s outcome

@@ -4,16 +4,14 @@ ghost use Rattle.std.specs.List.{list_any};
 ghost use Rattle.rio_machine.specs.Limits.{has_many_leaves};
 ghost use Rattle.rio_tree.specs.HeaderLength.{bare_branch, bare_head};
 
-use rio_leaf::{BranchDef, Shape};
+use rio_judge::any_has_many_leaves;
+use rio_leaf::BranchDef;
 use rio_num::NoMemory;
 use rio_tree::{Baskets, Branch, BranchNumbers, Branches, TreeHead, has_offsets};
 use std::alloc::Global;
 
 // How long a tree's name may be.
 const NAME_LIMIT: usize = 100;
-
-// How many leaves a branch may have.
-const LEAF_LIMIT: usize = 64;
 
 // A branch without entries and baskets.
 fn bare_branch(alloc: Global, def: &BranchDef) -> Result<Branch, NoMemory>
@@ -44,25 +42,10 @@ pub(crate) fn bare_head(alloc: Global, branches: &[BranchDef]) -> Result<TreeHea
     })
 }
 
-fn has_many_leaves(branch: &BranchDef) -> bool
-    ensures { result ≡ has_many_leaves branch.now.shape }
-{
-    match &branch.shape {
-        Shape::Leaves(leaves) => leaves.len() > LEAF_LIMIT,
-        Shape::Class(_) => false,
-    }
-}
-
-fn has_wide_branch(branches: &[BranchDef]) -> bool
-    ensures { result ≡ list_any (λ b. has_many_leaves b.shape) branches.now }
-{
-    branches.iter().any(|branch| has_many_leaves(branch))
-}
-
 /// Whether the name of a tree is longer, or a branch of it has more leaves, than a file may have.
 pub(crate) fn is_long_tree(name: &[u8], branches: &[BranchDef]) -> bool
     ensures { result ≡ (nat_lt 100 (length name.now)
         || list_any (λ b. has_many_leaves b.shape) branches.now) }
 {
-    name.len() > NAME_LIMIT || has_wide_branch(branches)
+    name.len() > NAME_LIMIT || any_has_many_leaves(branches)
 }

@@ -1,13 +1,13 @@
 //! A class is declared.
 use crate::list::list_key_length;
 use crate::place::place_within;
-use crate::{Session, SessionFault};
+use crate::replies::class_text;
+use crate::{Replies, Session, SessionFault};
 use rio_chain::PlanFault;
 use rio_host::Host;
 use rio_judge::NewClass;
 use rio_machine::{Outcome, Refusal};
 use rio_num::padded;
-use rio_reply::class_reply;
 
 impl Session {
     ghost use Rattle.std.specs.Prelude.{◌≡◌, false, IfOk};
@@ -60,12 +60,13 @@ impl Session {
         &mut self,
         host: &mut H,
         new: NewClass,
+        replies: Replies,
     ) -> Result<Outcome, SessionFault>
         requires fresh { self.old.failed ≡ false }
         requires ready { IsReady (H.view host.old) self.old }
         requires can { CanBeDone self.old (Work.Class new) }
         ensures does { (c : Line) → IsToDo self.old c (AnyWork.Item (Work.Class new))
-            → Does (H.view host.old) (H.view host.new) self.old self.new c result }
+            → Does replies (H.view host.old) (H.view host.new) self.old self.new c result }
         ensures reads { (H.view host.new).reads ≡ (H.view host.old).reads }
     {
         let length = u64::from(new.length);
@@ -74,11 +75,11 @@ impl Session {
         match place_within(&self.chain, n, self.need_with_list()) {
             Ok(place) => {
                 let class = &new.class;
-                let text = class_reply(self.alloc, class.name.as_slice(), class.version)?;
+                let text = class_text(self.alloc, replies, class.name.as_slice(), class.version)?;
                 self.declare_at(host, place, new, text.as_slice(), cost)
             }
             Err(PlanFault::Full { end, wanted }) => {
-                self.refuse(host, Refusal::Full { end, wanted }, cost)
+                self.refuse(host, Refusal::Full { end, wanted }, cost, replies)
             }
             Err(PlanFault::NoMemory) => Err(SessionFault::NoMemory),
         }

@@ -1,11 +1,11 @@
 //! An object or a tree is deleted.
 use crate::open_tree::Due;
 use crate::release::release_all;
-use crate::{Session, SessionFault};
+use crate::replies::delete_text;
+use crate::{Replies, Session, SessionFault};
 use rio_host::Host;
 use rio_key::{KeyHead, key_length};
 use rio_machine::Outcome;
-use rio_reply::delete_reply;
 
 impl Session {
     ghost use Rattle.std.specs.Prelude.{◌≡◌, Some, false, IfOk};
@@ -80,17 +80,18 @@ impl Session {
         &mut self,
         host: &mut H,
         head: &KeyHead,
+        replies: Replies,
     ) -> Result<Outcome, SessionFault>
         requires fresh { self.old.failed ≡ false }
         requires ready { IsReady (H.view host.old) self.old }
         requires there { head_of head.now.name (Some head.now.cycle) self.old.heads
             ≡ Some head.now }
         ensures does { (c : Line) → IsToDelete self.old c head.now
-            → Does (H.view host.old) (H.view host.new) self.old self.new c result }
+            → Does replies (H.view host.old) (H.view host.new) self.old self.new c result }
         ensures reads { (H.view host.new).reads ≡ (H.view host.old).reads }
     {
         let places = self.released_by(head)?;
-        let text = delete_reply(self.alloc, head.name.as_slice(), head.cycle)?;
+        let text = delete_text(self.alloc, replies, head.name.as_slice(), head.cycle)?;
         self.release_and_say(host, head, places.as_slice(), text.as_slice())
     }
 }

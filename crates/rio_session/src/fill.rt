@@ -5,15 +5,15 @@ ghost use Rattle.rio_session.specs.RowPlans.{entry_cost, row_cost};
 
 use crate::open_baskets::{PlannedBaskets, open_lengths, plan_baskets};
 use crate::open_tree::Due;
+use crate::replies::fill_text;
 use crate::steps::make_changes;
-use crate::{Session, SessionFault};
+use crate::{Replies, Session, SessionFault};
 use rio_chain::PlanFault;
 use rio_entry::EntryFault;
 use rio_fill::{Flags, Prepared};
 use rio_host::Host;
 use rio_judge::{NewRow, judge_row};
 use rio_machine::{Outcome, Refusal};
-use rio_reply::fill_reply;
 use rio_state::{END_LIMIT, close_length};
 
 // How many bytes the entry of a row at `k` may cost of the file's room: twice its length, and where nothing was pending the basket of
@@ -181,12 +181,13 @@ impl Session {
         at: usize,
         row: &NewRow,
         entries: Prepared,
+        replies: Replies,
     ) -> Result<Outcome, SessionFault>
         requires fresh { self.old.failed ≡ false }
         requires ready { IsReady (H.view host.old) self.old }
         requires can { (t : FilledTree) × IsNamedAt self.old row.now.name at t × IsRowOf t entries }
         ensures does { (c : Line) → IsFillOf self.old row.now entries c
-            → Does (H.view host.old) (H.view host.new) self.old self.new c result }
+            → Does replies (H.view host.old) (H.view host.new) self.old self.new c result }
         ensures reads { (H.view host.new).reads ≡ (H.view host.old).reads }
     {
         let (saved, pending) = self.filled.rows(at);
@@ -197,11 +198,11 @@ impl Session {
         let cost = fill_cost(&entries, pending);
         match self.plan_row(row.name.as_slice(), &entries) {
             Ok(plan) => {
-                let text = fill_reply(self.alloc, row.name.as_slice(), count)?;
+                let text = fill_text(self.alloc, replies, row.name.as_slice(), count)?;
                 self.put_row(host, at, row, entries, plan, text.as_slice(), cost)
             }
             Err(PlanFault::Full { end, wanted }) => {
-                self.refuse(host, Refusal::Full { end, wanted }, cost)
+                self.refuse(host, Refusal::Full { end, wanted }, cost, replies)
             }
             Err(PlanFault::NoMemory) => Err(SessionFault::NoMemory),
         }
@@ -214,6 +215,7 @@ impl Session {
         at: usize,
         row: &NewRow,
         found: Result<Prepared, EntryFault>,
+        replies: Replies,
     ) -> Result<Outcome, SessionFault>
         requires fresh { self.old.failed ≡ false }
         requires ready { IsReady (H.view host.old) self.old }
@@ -221,18 +223,18 @@ impl Session {
         requires there { (t : FilledTree) × IsNamedAt self.old row.now.name at t
             × IsPreparedOf self.old t row.now found }
         ensures does { (c : Line) → IsToDo self.old c (AnyWork.Tree (TreeWork.Fill row.now))
-            → Does (H.view host.old) (H.view host.new) self.old self.new c result }
+            → Does replies (H.view host.old) (H.view host.new) self.old self.new c result }
         ensures reads { (H.view host.new).reads ≡ (H.view host.old).reads }
     {
         match found {
             Ok(entries) => match judge_row(row, None) {
-                Some(refusal) => self.refuse(host, refusal, 0),
-                None => self.fill_with(host, at, row, entries),
+                Some(refusal) => self.refuse(host, refusal, 0, replies),
+                None => self.fill_with(host, at, row, entries, replies),
             },
             Err(fault) => match fault {
                 EntryFault::NoMemory => Err(SessionFault::NoMemory),
                 _ => match judge_row(row, Some(&fault)) {
-                    Some(refusal) => self.refuse(host, refusal, 0),
+                    Some(refusal) => self.refuse(host, refusal, 0, replies),
                     None => Err(SessionFault::NoMemory),
                 },
             },
@@ -244,12 +246,13 @@ impl Session {
         &mut self,
         host: &mut H,
         row: NewRow,
+        replies: Replies,
     ) -> Result<Outcome, SessionFault>
         requires fresh { self.old.failed ≡ false }
         requires ready { IsReady (H.view host.old) self.old }
         requires can { AnyCanBeDone self.old (AnyWork.Tree (TreeWork.Fill row)) }
         ensures does { (c : Line) → IsToDo self.old c (AnyWork.Tree (TreeWork.Fill row))
-            → Does (H.view host.old) (H.view host.new) self.old self.new c result }
+            → Does replies (H.view host.old) (H.view host.new) self.old self.new c result }
         ensures reads { (H.view host.new).reads ≡ (H.view host.old).reads }
     {
         let name = row.name.as_slice();
@@ -261,6 +264,6 @@ impl Session {
         };
         tree.stays_bounded();
         let found = tree.filler.prepare(self.registry.classes(), &row.row);
-        self.fill_by(host, at, &row, found)
+        self.fill_by(host, at, &row, found, replies)
     }
 }

@@ -1,5 +1,5 @@
 //! An object is printed.
-use crate::{Session, SessionFault};
+use crate::{Replies, Session, SessionFault};
 use rio_chain::ReadFault;
 use rio_host::Host;
 use rio_key::KeyHead;
@@ -30,39 +30,41 @@ impl Session {
         }
     }
 
-    // Prints the object whose record has these bytes, or why it can't be had in the version.
+    // Prints the object whose record has these bytes, or why it can't be had in the version, unless replies are omitted.
     fn print<H: Host>(
         &mut self,
         host: &mut H,
         head: &KeyHead,
         version: Option<i32>,
         bytes: &[u8],
+        replies: Replies,
     ) -> Result<Outcome, SessionFault>
         requires { length bytes.now < 2 ^ 32 }
-        ensures { PrintsTold (record_told self.old.classes head.now version bytes.now)
+        ensures { PrintsTold replies (record_told self.old.classes head.now version bytes.now)
             (H.view host.old) (H.view host.new) self.old self.new result }
     {
         let told = self.told(head, version, bytes);
-        self.print_told(host, told)
+        self.print_told(host, told, replies)
     }
 
-    // Reads the object of a key, and prints it as it is or in a version of its class.
+    // Reads the object of a key, and prints it as it is or in a version of its class, unless replies are omitted.
     pub(crate) fn get<H: Host>(
         &mut self,
         host: &mut H,
         head: &KeyHead,
         version: Option<i32>,
+        replies: Replies,
     ) -> Result<Outcome, SessionFault>
         requires fresh { self.old.failed ≡ false }
         requires there { head_of head.now.name (Some head.now.cycle) self.old.heads
             ≡ Some head.now }
         requires holds { HoldsChain (H.view host.old) self.old.segments }
-        ensures tells { TellsObject head.now version (H.view host.old) (H.view host.new)
-            self.old self.new result }
+        ensures tells { TellsObject replies head.now version (H.view host.old)
+            (H.view host.new) self.old self.new result }
         ensures sound { IsSoundState self.old }
     {
         match self.chain.read_record(host, head.seek) {
-            Ok(bytes) => self.print(host, head, version, bytes.as_slice()),
+            Ok(bytes) => self.print(host, head, version, bytes.as_slice(), replies),
             Err(ReadFault::NoMemory) => Err(SessionFault::NoMemory),
             Err(ReadFault::HostFault) => {
                 self.failed = true;

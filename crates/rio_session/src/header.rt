@@ -22,7 +22,8 @@ pub(crate) const TREE_CLASS: &[u8] = b"TTree";
 
 // The header as it is written behind a key of this length.
 fn header_data(alloc: Global, start: u64, name: &[u8], head: &TreeHead) -> Result<Bytes, NoMemory>
-    requires { start + header_length name.now (stated_defs head.now.branches) (basket_count head.now)
+    requires { start
+        + header_length name.now (stated_defs head.now.branches) (basket_count head.now)
         < 2 ^ 30 - 2 }
     ensures exact { IfOk result (λ made. made
         ≡ room_of (written_form tree_classes start (tree_value_of name.now head.now))) }

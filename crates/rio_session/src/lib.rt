@@ -1,5 +1,5 @@
-//! A session on one file: [`Session::open`] opens it, [`Session::apply`] does a command, and [`Session::close`] closes
-//! the file. Each crash image while a command is done reads as the state from before it or after it. What is kept beside
+//! A session on one file: [`Session::open`] opens it, [`Session::apply`] does a command and prints its reply,
+//! [`Session::apply_quiet`] does it and prints nothing, and [`Session::close`] closes the file. Each crash image while a command is done reads as the state from before it or after it. What is kept beside
 //! the file stands for the state, so no command but `get` and `scan` reads the file again.
 //!
 //! A command changes the records of the file by a list of changes, one after the other, each the put or the release of a
@@ -37,6 +37,7 @@ mod place;
 mod put;
 mod release;
 mod replace;
+mod replies;
 mod save;
 mod say;
 mod scan;
@@ -49,4 +50,5 @@ mod work;
 
 pub use fault::{OpenFault, SessionFault};
 pub use laws::steps_follow_files;
+pub use replies::Replies;
 pub use session::Session;

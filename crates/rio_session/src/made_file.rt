@@ -22,7 +22,6 @@ ghost use Rattle.rio_session.specs.SessionState.{filled_tree_of, kept_tree_of};
 ghost use Rattle.std.specs.List.{All};
 ghost use Rattle.rio_fill.specs.Heads.{CanBeFilled};
 ghost use Rattle.rio_tree.specs.HeaderLength.{basket_count};
-ghost use Rattle.rio_tree.specs.WrittenLaws.{stated_defs};
 
 use crate::bare_head::{bare_head, is_long_tree};
 use crate::header::header_bytes;
@@ -32,10 +31,9 @@ use crate::{OpenFault, Session};
 use rio_chain::put_word;
 use rio_fill::Filler;
 use rio_host::{Failed, Host, HostFault};
-use rio_leaf::BranchDefs;
 use rio_num::NoMemory;
-use rio_recover::{Recovered, TreeAt, clean, recover};
-use rio_tree::{Branch, written_tree_is_read};
+use rio_recover::{Recovered, TreeAt, clean, recover, stated_defs};
+use rio_tree::written_tree_is_read;
 use rio_tree_table::{KeptTree, TreeTable};
 use std::alloc::Global;
 
@@ -60,17 +58,6 @@ fn mark_open<H: Host>(host: &mut H) -> Result<(), Failed>
 {
     host.sync()?;
     put_word(host, END_PLACE, OPEN_END)
-}
-
-// The branches as a line of a script declares them.
-fn stated_defs(alloc: Global, branches: &[Branch]) -> Result<BranchDefs, NoMemory>
-    ensures { IfOk result (λ defs. defs ≡ stated_defs branches.now) }
-{
-    let mut defs = BranchDefs::new(alloc);
-    for branch in branches {
-        defs.push(branch.def.copy()?)?;
-    }
-    Ok(defs)
 }
 
 // What is kept of a tree with this header: no rows are pending.

@@ -314,7 +314,8 @@ impl OpenTree {
 
     /// How long the header is of a save, with all baskets, and its zero bytes.
     pub(crate) fn next_header_length(&self) -> u64
-        ensures exact { result ≡ padded_length (lengths_of_fill self.now.name self.now.fill).header }
+        ensures exact { result
+            ≡ padded_length (lengths_of_fill self.now.name self.now.fill).header }
         ensures low { result < 2 ^ 40 }
     {
         let sums = sum_branches(self.name.as_slice(), &self.filler, None, 0);

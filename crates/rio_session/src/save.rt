@@ -10,8 +10,9 @@ use crate::header::{TREE_CLASS, header_record};
 use crate::open_baskets::{PlannedBaskets, open_lengths, plan_baskets};
 use crate::open_tree::{Due, OpenTree};
 use crate::place::key_length;
+use crate::replies::save_text;
 use crate::steps::{Step, make_changes};
-use crate::{Session, SessionFault};
+use crate::{Replies, Session, SessionFault};
 use rio_chain::PlanFault;
 use rio_effect::headers_have_records;
 use rio_fill::Flags;
@@ -19,7 +20,6 @@ use rio_host::Host;
 use rio_key::KeyHead;
 use rio_machine::{Outcome, Refusal};
 use rio_num::{Lengths, NoMemory, Places};
-use rio_reply::save_reply;
 use rio_state::{END_LIMIT, close_length};
 use rio_tree::Baskets;
 use std::alloc::Global;
@@ -236,13 +236,14 @@ impl Session {
         host: &mut H,
         at: usize,
         before: &KeyHead,
+        replies: Replies,
     ) -> Result<Outcome, SessionFault>
         requires fresh { self.old.failed ≡ false }
         requires ready { IsReady (H.view host.old) self.old }
         requires can { AnyCanBeDone self.old (AnyWork.Tree (TreeWork.Save before.now)) }
         requires there { (t : FilledTree) × IsNamedAt self.old before.now.name at t }
         ensures does { (c : Line) → IsToDo self.old c (AnyWork.Tree (TreeWork.Save before.now))
-            → Does (H.view host.old) (H.view host.new) self.old self.new c result }
+            → Does replies (H.view host.old) (H.view host.new) self.old self.new c result }
         ensures reads { (H.view host.new).reads ≡ (H.view host.old).reads }
     {
         headers_have_records();
@@ -255,11 +256,11 @@ impl Session {
         match self.plan_save(before) {
             Ok(plan) => {
                 let name = before.name.as_slice();
-                let text = save_reply(self.alloc, name, before.cycle + 1, rows)?;
+                let text = save_text(self.alloc, replies, name, before.cycle + 1, rows)?;
                 self.put_save(host, at, before, plan, text.as_slice(), cost)
             }
             Err(PlanFault::Full { end, wanted }) => {
-                self.refuse(host, Refusal::Full { end, wanted }, cost)
+                self.refuse(host, Refusal::Full { end, wanted }, cost, replies)
             }
             Err(PlanFault::NoMemory) => Err(SessionFault::NoMemory),
         }
@@ -270,16 +271,17 @@ impl Session {
         &mut self,
         host: &mut H,
         before: &KeyHead,
+        replies: Replies,
     ) -> Result<Outcome, SessionFault>
         requires fresh { self.old.failed ≡ false }
         requires ready { IsReady (H.view host.old) self.old }
         requires can { AnyCanBeDone self.old (AnyWork.Tree (TreeWork.Save before.now)) }
         ensures does { (c : Line) → IsToDo self.old c (AnyWork.Tree (TreeWork.Save before.now))
-            → Does (H.view host.old) (H.view host.new) self.old self.new c result }
+            → Does replies (H.view host.old) (H.view host.new) self.old self.new c result }
         ensures reads { (H.view host.new).reads ≡ (H.view host.old).reads }
     {
         match self.filled.position(before.name.as_slice()) {
-            Some(at) => self.save_at(host, at, before),
+            Some(at) => self.save_at(host, at, before, replies),
             None => unreachable!(),
         }
     }

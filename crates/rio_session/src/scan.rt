@@ -1,7 +1,7 @@
 //! The rows of a tree are printed.
 use crate::open_tree::OpenTree;
 use crate::scan_rows::scan_text;
-use crate::{Session, SessionFault};
+use crate::{Replies, Session, SessionFault};
 use rio_chain::ReadFault;
 use rio_host::Host;
 use rio_key::KeyHead;
@@ -83,23 +83,24 @@ impl Session {
         }
     }
 
-    // Prints the rows of the tree of a key, as they are or with the objects of a class in a version.
+    // Prints the rows of the tree of a key, as they are or with the objects of a class in a version, unless replies are omitted.
     pub(crate) fn scan<H: Host>(
         &mut self,
         host: &mut H,
         head: &KeyHead,
         class: &Option<Base>,
+        replies: Replies,
     ) -> Result<Outcome, SessionFault>
         requires fresh { self.old.failed ≡ false }
         requires there { IsSome (find (is_tree_of head.now.name) self.old.trees) }
         requires holds { HoldsChain (H.view host.old) self.old.segments }
         ensures tells { (t : FilledTree) → find (is_tree_of head.now.name) self.old.trees ≡ Some t
-            → TellsRows head.now.name class.now t (H.view host.old) (H.view host.new) self.old
-            self.new result }
+            → TellsRows replies head.now.name class.now t (H.view host.old) (H.view host.new)
+            self.old self.new result }
         ensures sound { IsSoundState self.old }
     {
         match self.text_of_scan(host, head.name.as_slice(), class) {
-            Ok(told) => self.print_told(host, told),
+            Ok(told) => self.print_told(host, told, replies),
             Err(ReadFault::NoMemory) => Err(SessionFault::NoMemory),
             Err(ReadFault::HostFault) => {
                 self.failed = true;

@@ -9,7 +9,6 @@ ghost use Rattle.rio_basket.specs.Entries.{entries_in};
 ghost use Rattle.rio_chain.specs.Chains.{HasChain, HasRecordSegment, HoldsChain};
 ghost use Rattle.rio_chain.specs.Segments.{Link};
 ghost use Rattle.rio_entry.specs.Counting.{counters_within};
-ghost use Rattle.rio_entry.specs.RowFaults.{fault_held};
 ghost use Rattle.rio_fill.specs.Fill.{basket_of, count_before, defs_of, entry_count};
 ghost use Rattle.rio_model.specs.declared.map_fault.MapFault.TheVariants.{NoMemory as OutOfMemory};
 ghost use Rattle.rio_reply.specs.Scanned.{scan_start};
@@ -22,7 +21,7 @@ use rio_basket::{Basket, BasketFault, StoredBasket};
 use rio_chain::{Chain, ReadFault};
 use rio_entry::{
     EntryFault, FoundBasket, Lane, LeafCounters, RowFault, RowPart, basket_from, empty_lanes,
-    read_row,
+    fault_held, read_row,
 };
 use rio_fill::Filler;
 use rio_host::Host;
@@ -42,7 +41,8 @@ pub(crate) struct ScannedTree<'a> {
     pub(crate) classes: &'a Classes,
     pub(crate) filler: &'a Filler,
     pub(crate) counters: &'a [LeafCounters],
-    pub(crate) ghost counted: { counters.now ≡ map (λ b. counters_within b.def.shape) filler.now.branches },
+    pub(crate) ghost counted: { counters.now
+        ≡ map (λ b. counters_within b.def.shape) filler.now.branches },
 }
 
 /// A branch of it: where its baskets stand that were written, the open one, and the number of the first entry in that.
@@ -50,7 +50,7 @@ pub(crate) struct ScannedTree<'a> {
 struct FilledBranch<'a> {
     def: &'a BranchDef,
     baskets: &'a [BasketAt],
-    open: &'a Basket,
+    basket: &'a Basket,
     first: u64,
 }
 
@@ -69,7 +69,8 @@ fn branch_at(filler: &Filler, k: usize) -> FilledBranch
     ensures def { Some result.def.now ≡ option_map (λ b. b.def) (slice_get filler.now.branches k) }
     ensures baskets { Some result.baskets.now
         ≡ option_map (λ b. b.baskets) (slice_get filler.now.branches k) }
-    ensures open { Some result.open.now ≡ option_map basket_of (slice_get filler.now.branches k) }
+    ensures basket { Some result.basket.now
+        ≡ option_map basket_of (slice_get filler.now.branches k) }
     ensures first { Some result.first ≡ option_map (count_before (entry_count filler.now))
         (slice_get filler.now.branches k) }
 {
@@ -79,10 +80,10 @@ fn branch_at(filler: &Filler, k: usize) -> FilledBranch
         filler.basket(k),
         filler.first(k),
     ) {
-        (Some(def), Some(baskets), Some(open), Some(first)) => FilledBranch {
+        (Some(def), Some(baskets), Some(basket), Some(first)) => FilledBranch {
             def,
             baskets,
-            open,
+            basket,
             first,
         },
         _ => unreachable!(),
@@ -250,16 +251,6 @@ fn hold_all<H: Host>(
     Ok(())
 }
 
-// Why an entry isn't in the basket that is held.
-fn fault_held(lane: &Lane) -> RowFault
-    ensures { result ≡ fault_held lane.now.basket }
-{
-    match &lane.basket {
-        Some(Err(fault)) => RowFault::Basket(*fault),
-        _ => RowFault::Basket(BasketFault::BadLast { place: 0 }),
-    }
-}
-
 // The entry in the basket that is held, if it is there.
 fn stored_entry<'a>(baskets: &[BasketAt], lane: &'a Lane, entry: u64) -> Option<&'a [u8]>
     ensures there { option_copied result
@@ -285,12 +276,12 @@ fn entry_held<'a>(baskets: &[BasketAt], lane: &'a Lane, entry: u64) -> Result<&'
 }
 
 // The entry in the open basket, of which this is the first.
-fn open_entry(open: &Basket, first: u64, entry: u64) -> Result<&[u8], RowFault>
+fn open_entry(basket: &Basket, first: u64, entry: u64) -> Result<&[u8], RowFault>
     ensures exact { result_map_both (λ bytes. bytes.now) (λ fault. fault) result
-        ≡ open_entry open.now.entries first entry }
+        ≡ open_entry basket.now.entries first entry }
     ensures short { IfOk result (λ bytes. length bytes.now < 2 ^ 32) }
 {
-    match open.entry(entry.saturating_sub(first) as usize) {
+    match basket.entry(entry.saturating_sub(first) as usize) {
         Some(bytes) if (bytes.len() as u64) < 1 << 32 => Ok(bytes),
         _ => Err(RowFault::Basket(BasketFault::BadLast { place: 0 })),
     }
@@ -303,14 +294,14 @@ fn entry_of_branch<'a>(
     entry: u64,
 ) -> Result<&'a [u8], RowFault>
     ensures exact { result_map_both (λ bytes. bytes.now) (λ fault. fault) result
-        ≡ entry_within branch.now.baskets.now branch.now.open.now.entries branch.now.first
+        ≡ entry_within branch.now.baskets.now branch.now.basket.now.entries branch.now.first
         lane.now entry }
     ensures short { IfOk result (λ bytes. length bytes.now < 2 ^ 32) }
 {
     if entry < branch.first {
         entry_held(branch.baskets, lane, entry)
     } else {
-        open_entry(branch.open, branch.first, entry)
+        open_entry(branch.basket, branch.first, entry)
     }
 }
 

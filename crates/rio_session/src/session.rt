@@ -1,7 +1,7 @@
 //! A session on a file.
-use crate::SessionFault;
 use crate::open_tree::Due;
 use crate::open_trees::OpenTrees;
+use crate::{Replies, SessionFault};
 use rio_chain::Chain;
 use rio_dir::KeyTable;
 use rio_effect::headers_have_records;
@@ -83,13 +83,14 @@ impl Model for Session {
 }
 
 impl Session {
-    ghost use Rattle.std.specs.Prelude.{◌≡◌, ℕ, List, false, IsTrue, OnOk};
+    ghost use Rattle.std.specs.Prelude.{◌≡◌, ℕ, List, false, IsErrOf, OnOk};
     ghost use Rattle.rio_machine.specs.State.{State};
     ghost use Rattle.rio_step.specs.Statable.{IsStatable};
     ghost use Rattle.rio_session.specs.Causes.{NeverReads};
     ghost use Rattle.rio_session.specs.Does.{FileAfter, KeptAfter, TextAfter};
     ghost use Rattle.rio_session.specs.FileSteps.{IsStepTold, RecordsBecome};
     ghost use Rattle.rio_session.specs.Session.{IsReady, StandsFor};
+    ghost use Rattle.rio_session.specs.declared.fault.SessionFault.{SessionFault as Fault};
 
     /// Whether a call of the host failed, after which nothing more can be done.
     pub fn is_failed(&self) -> bool
@@ -115,8 +116,8 @@ impl Session {
         requires fresh { self.old.failed ≡ false }
         requires statable { IsStatable command.now }
         requires ready { IsReady (H.view host.old) self.old }
-        ensures file { FileAfter (H.view host.old) (H.view host.new) self.old self.new command.now
-            result }
+        ensures file { FileAfter Replies.Printed (H.view host.old) (H.view host.new) self.old
+            self.new command.now result }
         // The mark of the command, and the records after it, follow from the records of the file.
         ensures marks { (m : State) (text : List ℕ)
             → (stands : StandsFor (H.view host.old) self.old m text)
@@ -124,14 +125,50 @@ impl Session {
         ensures records { OnOk result ((m : State) (text : List ℕ)
             → StandsFor (H.view host.old) self.old m text
             → RecordsBecome (H.view host.old) (H.view host.new) self.old self.new m command.now) }
-        ensures text { TextAfter (H.view host.old) (H.view host.new) self.old self.new command.now
-            result }
-        ensures kept { KeptAfter (H.view host.old) (H.view host.new) self.old self.new command.now
-            result }
+        ensures text { TextAfter Replies.Printed (H.view host.old) (H.view host.new) self.old
+            self.new command.now result }
+        ensures kept { KeptAfter Replies.Printed (H.view host.old) (H.view host.new) self.old
+            self.new command.now result }
         ensures reads { NeverReads command.now
             → (H.view host.new).reads ≡ (H.view host.old).reads }
     {
         headers_have_records();
-        self.judge_and_do(host, command)
+        self.judge_and_do(host, command, Replies::Printed)
+    }
+
+    /// Does a command as [`Session::apply`] does, and prints nothing: neither what it did nor why it is refused. What became of
+    /// it is returned; file and session are as after [`Session::apply`]. It is for commands that come by the thousand, such as
+    /// the fills of a generated file: no reply to a change is made, and the host isn't called for its text. `get` and `scan` read
+    /// what they would print, since whether it can be had in a version decides what is returned.
+    /// The clauses `file`, `text` and `kept` are those of [`Session::apply`] with an empty reply. By `said` and `no_say_fault`
+    /// the printed text stays as it is, and printing can't fail.
+    pub fn apply_quiet<H: Host>(
+        &mut self,
+        host: &mut H,
+        command: &Command,
+    ) -> Result<Outcome, SessionFault>
+        requires fresh { self.old.failed ≡ false }
+        requires statable { IsStatable command.now }
+        requires ready { IsReady (H.view host.old) self.old }
+        ensures file { FileAfter Replies.Omitted (H.view host.old) (H.view host.new) self.old
+            self.new command.now result }
+        // The mark of the command, and the records after it, follow from the records of the file.
+        ensures marks { (m : State) (text : List ℕ)
+            → (stands : StandsFor (H.view host.old) self.old m text)
+            → IsStepTold self.old m command.now stands.state.links }
+        ensures records { OnOk result ((m : State) (text : List ℕ)
+            → StandsFor (H.view host.old) self.old m text
+            → RecordsBecome (H.view host.old) (H.view host.new) self.old self.new m command.now) }
+        ensures text { TextAfter Replies.Omitted (H.view host.old) (H.view host.new) self.old
+            self.new command.now result }
+        ensures said { (H.view host.new).said ≡ (H.view host.old).said }
+        ensures no_say_fault { IsErrOf result Fault.SayFault → ⊥ }
+        ensures kept { KeptAfter Replies.Omitted (H.view host.old) (H.view host.new) self.old
+            self.new command.now result }
+        ensures reads { NeverReads command.now
+            → (H.view host.new).reads ≡ (H.view host.old).reads }
+    {
+        headers_have_records();
+        self.judge_and_do(host, command, Replies::Omitted)
     }
 }

@@ -1,12 +1,12 @@
 //! An object is stored.
 use crate::place::{key_length, place_within, record_of, words_of};
-use crate::{Session, SessionFault};
+use crate::replies::put_text;
+use crate::{Replies, Session, SessionFault};
 use rio_chain::{NewRecord, PlanFault};
 use rio_host::Host;
 use rio_judge::StoredObject;
 use rio_machine::{Outcome, Refusal};
 use rio_num::{NoMemory, padded};
-use rio_reply::put_reply;
 
 impl Session {
     ghost use Rattle.std.specs.Prelude.{◌≡◌, ◌+◌, ◌≤◌, ◌<◌, ◌^◌, length, true, false, IfOk};
@@ -52,12 +52,13 @@ impl Session {
         &mut self,
         host: &mut H,
         object: &StoredObject,
+        replies: Replies,
     ) -> Result<Outcome, SessionFault>
         requires fresh { self.old.failed ≡ false }
         requires ready { IsReady (H.view host.old) self.old }
         requires can { CanBeDone self.old (Work.Put object.now) }
         ensures does { (c : Line) → IsToDo self.old c (AnyWork.Item (Work.Put object.now))
-            → Does (H.view host.old) (H.view host.new) self.old self.new c result }
+            → Does replies (H.view host.old) (H.view host.new) self.old self.new c result }
         ensures reads { (H.view host.new).reads ≡ (H.view host.old).reads }
     {
         let name = object.name.as_slice();
@@ -67,11 +68,11 @@ impl Session {
         match place_within(&self.chain, n, self.need_with(class, name)) {
             Ok(place) => {
                 let made = self.make(place, object)?;
-                let text = put_reply(self.alloc, name, object.cycle)?;
+                let text = put_text(self.alloc, replies, name, object.cycle)?;
                 self.put_and_say(host, made, text.as_slice(), 500 + length)
             }
             Err(PlanFault::Full { end, wanted }) => {
-                self.refuse(host, Refusal::Full { end, wanted }, 500 + length)
+                self.refuse(host, Refusal::Full { end, wanted }, 500 + length, replies)
             }
             Err(PlanFault::NoMemory) => Err(SessionFault::NoMemory),
         }

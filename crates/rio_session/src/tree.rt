@@ -8,8 +8,9 @@ use crate::list::list_key_length;
 use crate::new_head::new_head;
 use crate::open_tree::OpenTree;
 use crate::place::key_length;
+use crate::replies::tree_text;
 use crate::steps::{Step, make_changes};
-use crate::{Session, SessionFault};
+use crate::{Replies, Session, SessionFault};
 use rio_chain::PlanFault;
 use rio_effect::headers_have_records;
 use rio_fill::Filler;
@@ -19,7 +20,6 @@ use rio_judge::NewTree;
 use rio_key::KeyHead;
 use rio_machine::{Outcome, Refusal};
 use rio_num::{Bytes, Lengths, NoMemory, Places, padded};
-use rio_reply::tree_reply;
 use rio_state::END_LIMIT;
 use rio_tree::TreeHead;
 use rio_tree_table::KeptTree;
@@ -78,8 +78,7 @@ fn list_then(made: Option<KeyHead>, before: Option<KeyHead>) -> Option<KeyHead>
 
 impl Session {
     ghost use Rattle.std.specs.Prelude.{◌≡◌, ◌+◌, ◌*◌, ◌<◌, ◌≤◌, ◌^◌, ℕ, List, length, true, false, Some, None, IfOk, IfSome};
-    ghost use Rattle.std.specs.List.{All, find};
-    ghost use Rattle.std.specs.Option.{option_map};
+    ghost use Rattle.std.specs.List.{find};
     ghost use Rattle.rio_chain.specs.Placing.{places_of, space_of};
     ghost use Rattle.rio_leaf.specs.declared.branch.BranchDef.{BranchDef as Declared};
     ghost use Rattle.rio_state.specs.Closing.{is_full};
@@ -95,7 +94,6 @@ impl Session {
     ghost use Rattle.rio_judge.specs.declared.work.NewTree.{NewTree as NewTreeOf};
     ghost use Rattle.rio_judge.specs.declared.work.TreeWork.{TreeWork};
     ghost use Rattle.rio_machine.specs.declared.command.Command.{Command as Line};
-    ghost use Rattle.rio_machine.specs.declared.command.Outcome.{Outcome as BecameOf};
     ghost use Rattle.rio_session.specs.Doable.{AnyCanBeDone, IsToDo};
     ghost use Rattle.rio_session.specs.Does.{Does};
     ghost use Rattle.rio_session.specs.Session.{IsReady};
@@ -286,12 +284,13 @@ impl Session {
         &mut self,
         host: &mut H,
         new: NewTree,
+        replies: Replies,
     ) -> Result<Outcome, SessionFault>
         requires fresh { self.old.failed ≡ false }
         requires ready { IsReady (H.view host.old) self.old }
         requires can { AnyCanBeDone self.old (AnyWork.Tree (TreeWork.Make new)) }
         ensures does { (c : Line) → IsToDo self.old c (AnyWork.Tree (TreeWork.Make new))
-            → Does (H.view host.old) (H.view host.new) self.old self.new c result }
+            → Does replies (H.view host.old) (H.view host.new) self.old self.new c result }
         ensures reads { (H.view host.new).reads ≡ (H.view host.old).reads }
     {
         headers_have_records();
@@ -309,12 +308,12 @@ impl Session {
         let cost = 600 + list_length + 2 * header;
         match self.chain.plan(&lengths, END_LIMIT.saturating_sub(need)) {
             Ok(places) => {
-                let text = tree_reply(self.alloc, new.name.as_slice())?;
+                let text = tree_text(self.alloc, replies, new.name.as_slice())?;
                 let made = self.make_tree(new, head, header, &places)?;
                 self.put_tree(host, made, text.as_slice(), cost)
             }
             Err(PlanFault::Full { end, wanted }) => {
-                self.refuse(host, Refusal::Full { end, wanted }, cost)
+                self.refuse(host, Refusal::Full { end, wanted }, cost, replies)
             }
             Err(PlanFault::NoMemory) => Err(SessionFault::NoMemory),
         }

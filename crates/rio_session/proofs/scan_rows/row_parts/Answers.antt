@@ -16,7 +16,7 @@ returns-in-Err-clause-entries c =
     let at = c.branch_at-branch in
     let b = at_place t.branches k (omega (arith, c.requires)) in
     let held = slice_get_read lanes (length lanes) k lane refl (omega arith) c.index-lanes-k.is in
-    let known = entry_known t k at.result.baskets.now at.result.open.now at.result.first at.ensures.baskets at.ensures.open at.ensures.first b.0 lane e b.1 in
+    let known = entry_known t k at.result.baskets.now at.result.basket.now at.result.first at.ensures.baskets at.ensures.basket at.ensures.first b.0 lane e b.1 in
     entries_stop (entry_count t) t.branches lanes e k b.0 lane b.1 held (map (λ part. part.entry.now) c.loop-k.parts.items) c.in-Err.fault (entries_of_row (entry_count t) t.branches lanes e)
     (sym known ∙ sym c.in-Err.ensures.exact) c.loop-k.invariant.entries
 
@@ -39,7 +39,7 @@ loop-k-preserved c =
     let at = c.branch_at-branch in
     let b = at_place t.branches k (omega (arith, c.requires)) in
     let held = slice_get_read lanes (length lanes) k lane refl (omega arith) c.index-lanes-k.is in
-    let known = entry_known t k at.result.baskets.now at.result.open.now at.result.first at.ensures.baskets at.ensures.open at.ensures.first b.0 lane e b.1 in
+    let known = entry_known t k at.result.baskets.now at.result.basket.now at.result.first at.ensures.baskets at.ensures.basket at.ensures.first b.0 lane e b.1 in
     record {
       branches = map_more (λ b. b.def) t.branches k (map (λ part. part.branch.now) c.loop-k.parts.items) _ at.result.def.now (defs_of t.branches) at.ensures.def
           (parts_more (λ part. part.branch.now) c.loop-k.parts.items c.push.new.self.items _ at.result.def.now c.in_ok-push.ensures.items refl) c.loop-k.invariant.branches;

@@ -1,10 +1,11 @@
+use Rattle.rio_session.specs.declared.replies.Replies.TheVariants.{Printed}
 use Rattle.rio_session.proofs.FileRecords.{records_follow, step_is_told}
 use Rattle.rio_session.proofs.session.Session.apply.Goals as goal
 
 pub returns-clause-records : goal.returns-clause-records
 returns-clause-records g c =
     let e = c.judge_and_do.ensures in
-    records_follow c.headers_have_records.ensures (g.H.Host.view c.args.host.now) (g.H.Host.view c.judge_and_do.new.host) c.args.self.now c.judge_and_do.new.self c.args.command.now c.judge_and_do.result e.does
+    records_follow Printed c.headers_have_records.ensures (g.H.Host.view c.args.host.now) (g.H.Host.view c.judge_and_do.new.host) c.args.self.now c.judge_and_do.new.self c.args.command.now c.judge_and_do.result e.does
     e.sound c.requires.fresh e.soon c.requires.statable
 
 pub returns-clause-marks : goal.returns-clause-marks

@@ -1,5 +1,5 @@
-use Rattle.std.proofs.Common.{◌≡◌, ◌∙◌, subst}
-use Rattle.rio_session.specs.{RowPlans.{IsPreparedOf}}
+use Rattle.std.proofs.Common.{subst}
+use Rattle.rio_session.specs.RowPlans.{IsPreparedOf}
 use Rattle.rio_session.proofs.{CommandDoes.{refused_does}, RowJudged.{fill_of, made_and_refused, not_made, row_of}}
 use Rattle.rio_session.proofs.session.Session.fill_by.Goals as goal
 
@@ -24,7 +24,7 @@ returns-in-Some-clause-does g c command todo =
     let t = c.requires.there.0 in
     let made = subst (IsPreparedOf s t r) c.in-Ok.is c.requires.there.2 in
     let judged = made_and_refused s r t c.requires.there.1.found command todo c.in-Ok.entries made c.in-Some.refusal c.in-Some.ensures in
-    refused_does (g.H.Host.view c.args.host.now) (g.H.Host.view c.refuse.new.host) s c.refuse.new.self (g.met.H.Host.lawful c.args.host.now) (g.met.H.Host.lawful c.refuse.new.host) c.requires.ready c.requires.fresh c.refuse.result
+    refused_does c.args.replies (g.H.Host.view c.args.host.now) (g.H.Host.view c.refuse.new.host) s c.refuse.new.self (g.met.H.Host.lawful c.args.host.now) (g.met.H.Host.lawful c.refuse.new.host) c.requires.ready c.requires.fresh c.refuse.result
     command c.in-Some.refusal judged c.refuse.ensures.says c.refuse.ensures.outcome
 
 pub returns-in-Some-judge_row : goal.returns-in-Some-judge_row
@@ -37,7 +37,7 @@ returns-in-Some-judge_row g c =
     record {
       does = λ command todo.
           let judged = not_made s r t c.requires.there.1.found command todo c.in-Err.fault c.in_default.not-NoMemory made c.in-Some-judge_row.refusal c.in-Some-judge_row.ensures in
-          refused_does (g.H.Host.view c.args.host.now) (g.H.Host.view refuse.new.host) s refuse.new.self (g.met.H.Host.lawful c.args.host.now) (g.met.H.Host.lawful refuse.new.host) c.requires.ready c.requires.fresh refuse.result
+          refused_does c.args.replies (g.H.Host.view c.args.host.now) (g.H.Host.view refuse.new.host) s refuse.new.self (g.met.H.Host.lawful c.args.host.now) (g.met.H.Host.lawful refuse.new.host) c.requires.ready c.requires.fresh refuse.result
           command c.in-Some-judge_row.refusal judged refuse.ensures.says refuse.ensures.outcome;
       reads = refuse.ensures.reads;
     }

@@ -15,7 +15,7 @@ pub returns-in-Ok-clause-tells : goal.returns-in-Ok-clause-tells
 returns-in-Ok-clause-tells g c =
     let s = c.args.self.now in
     let seek = c.args.head.now.seek in
-    tells_what_is_read c.args.head.now c.args.version (g.H.Host.view c.args.host.now) (g.H.Host.view c.read_record.new.host) s c.in-Ok.ensures.calls (g.H.Host.view c.print.new.host) c.print.new.self c.print.result c.as_slice.result.now
+    tells_what_is_read c.args.replies c.args.head.now c.args.version (g.H.Host.view c.args.host.now) (g.H.Host.view c.read_record.new.host) s c.in-Ok.ensures.calls (g.H.Host.view c.print.new.host) c.print.new.self c.print.result c.as_slice.result.now
     (g.met.H.Host.lawful c.read_record.new.host) c.in-Ok.ensures.cause
     (λ file held links chain. subst (λ (bytes : List ℕ). Contains links (RecordAt seek bytes)) (sym c.as_slice.ensures)
     (c.in-Ok.ensures.bytes file links held (subst (λ (x : SessionState). HasChain links x.segments file) (sym c.self.view_is) chain)))

@@ -16,10 +16,10 @@ returns-in-Delete-clause-does g c command todo = c.delete.ensures.does command (
 
 pub returns-in-Get-clause-does : goal.returns-in-Get-clause-does
 returns-in-Get-clause-does g c command todo =
-    get_is_done (g.H.Host.view c.args.host.now) (g.H.Host.view c.get.new.host) c.args.self.now c.get.new.self (g.met.H.Host.lawful c.args.host.now) (g.met.H.Host.lawful c.get.new.host) c.requires.ready c.requires.fresh c.get.result
+    get_is_done c.args.replies (g.H.Host.view c.args.host.now) (g.H.Host.view c.get.new.host) c.args.self.now c.get.new.self (g.met.H.Host.lawful c.args.host.now) (g.met.H.Host.lawful c.get.new.host) c.requires.ready c.requires.fresh c.get.result
     command c.in-Get.head c.in-Get.version (subst (λ (w : Work). IsToDo c.args.self.now command (Item w)) c.in-Get.is todo) c.get.ensures.sound c.get.ensures.tells
 
 pub returns-in-Ls-clause-does : goal.returns-in-Ls-clause-does
 returns-in-Ls-clause-does g c command todo =
-    ls_is_done (g.H.Host.view c.args.host.now) (g.H.Host.view c.list.new.host) c.args.self.now c.list.new.self (g.met.H.Host.lawful c.args.host.now) (g.met.H.Host.lawful c.list.new.host) c.requires.ready c.requires.fresh c.list.result
+    ls_is_done c.args.replies (g.H.Host.view c.args.host.now) (g.H.Host.view c.list.new.host) c.args.self.now c.list.new.self (g.met.H.Host.lawful c.args.host.now) (g.met.H.Host.lawful c.list.new.host) c.requires.ready c.requires.fresh c.list.result
     command (subst (λ (w : Work). IsToDo c.args.self.now command (Item w)) c.in-Ls.is todo) c.list.ensures.sound c.list.ensures.says c.list.ensures.outcome

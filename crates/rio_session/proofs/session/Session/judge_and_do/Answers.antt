@@ -11,7 +11,7 @@ returns-in-Refused-clause-does g c =
     let heads = ap (λ (x : SessionState). x.heads) c.self.view_is in
     let trees = c.self.invariant.trees ∙ sym (all_kept c.self.inside.filled.trees) ∙ ap kept_trees c.self.view_is in
     let judged = judged_now s c.args.command.now c.self.inside.registry c.self.inside.table.heads c.self.inside.trees.trees classes heads trees c.in_ok-refusal.field-0 (Refused c.in-Refused.refusal) c.in-Refused.is c.in_ok-refusal.ensures.judged in
-    refused_does (g.H.Host.view c.args.host.now) (g.H.Host.view c.refuse.new.host) s c.refuse.new.self (g.met.H.Host.lawful c.args.host.now) (g.met.H.Host.lawful c.refuse.new.host) c.requires.ready c.requires.fresh c.refuse.result
+    refused_does c.args.replies (g.H.Host.view c.args.host.now) (g.H.Host.view c.refuse.new.host) s c.refuse.new.self (g.met.H.Host.lawful c.args.host.now) (g.met.H.Host.lawful c.refuse.new.host) c.requires.ready c.requires.fresh c.refuse.result
     c.args.command.now c.in-Refused.refusal judged c.refuse.ensures.says c.refuse.ensures.outcome
 
 pub work-requires-clause-can : goal.work-requires-clause-can

@@ -4,10 +4,10 @@ use Rattle.rio_chain.specs.{Placing.{file_end, place_of, record_count, with_segm
 use Rattle.rio_key.specs.declared.head.KeyHead.{KeyHead}
 use Rattle.rio_machine.specs.Limits.{head_length}
 use Rattle.rio_state.specs.Closing.{end_limit, is_full, padded_length}
-use Rattle.rio_step.specs.{Step.{object_put}, ReplyText.{text_of}}
+use Rattle.rio_step.specs.Step.{object_put}
 use Rattle.rio_recover.specs.Closable.{is_sized}
-use Rattle.rio_session.specs.{Due.{need_with}, Sound.{IsSoundState}, Puts.{IsFullFor}, Session.{SessionState}}
-use Rattle.rio_session.proofs.{PutCalls.{full_is_said, put_is_done, record_can_be_put}, Replies.{does_nothing}}
+use Rattle.rio_session.specs.{Due.{need_with}, Sound.{IsSoundState}, Puts.{IsFullFor}, Replying.{reply_text}, Session.{SessionState}}
+use Rattle.rio_session.proofs.{PutCalls.{full_is_said, put_is_done, record_can_be_put}, OnlyReplies.{does_nothing}}
 use Rattle.rio_session.proofs.session.Session.put.Goals as goal
 
 pub key_length-requires-clause-class : goal.key_length-requires-clause-class
@@ -19,12 +19,12 @@ key_length-requires-clause-name g c = omega (arith, c.requires.can.0.name_short,
 pub returns-in_err-made-in-Ok-clause-does : goal.returns-in_err-made-in-Ok-clause-does
 returns-in_err-made-in-Ok-clause-does g c command todo =
     let p = err_from_is_err_and c.from_residual.result c.from_residual.ensures.1 in
-    rw (p.1, p.2) (does_nothing (g.H.Host.view c.args.host.now) c.args.self.now command (g.met.H.Host.lawful c.args.host.now) c.requires.ready c.requires.fresh)
+    rw (p.1, p.2) (does_nothing c.args.replies (g.H.Host.view c.args.host.now) c.args.self.now command (g.met.H.Host.lawful c.args.host.now) c.requires.ready c.requires.fresh)
 
 pub returns-in_err-text-in-Ok-clause-does : goal.returns-in_err-text-in-Ok-clause-does
 returns-in_err-text-in-Ok-clause-does g c command todo =
     let p = err_from_is_err_and c.from_residual-in_err-text-in-Ok.result c.from_residual-in_err-text-in-Ok.ensures.1 in
-    rw (p.1, p.2) (does_nothing (g.H.Host.view c.args.host.now) c.args.self.now command (g.met.H.Host.lawful c.args.host.now) c.requires.ready c.requires.fresh)
+    rw (p.1, p.2) (does_nothing c.args.replies (g.H.Host.view c.args.host.now) c.args.self.now command (g.met.H.Host.lawful c.args.host.now) c.requires.ready c.requires.fresh)
 
 pub put_and_say-requires-clause-can : goal.put_and_say-requires-clause-can
 put_and_say-requires-clause-can g c =
@@ -51,10 +51,10 @@ returns-in_ok-text-in-Ok-clause-does g c command todo =
     let need : (h : KeyHead) → is_sized h ≡ true → h.class ≡ o.class → h.name ≡ o.name → c.need_with.result ≡ need_with s.name (with_head h s.heads) (record_count s.segments + 1) s.trees =
     λ h sized class name. c.need_with.ensures h sized (class ∙ sym c.as_slice-class.ensures) (name ∙ sym c.as_slice-name.ensures) in
     let at = c.in-Ok.ensures.place ∙ ap (λ (x : SessionState). place_of x.segments c.padded-n.result) v in
-    let text = c.as_slice.ensures ∙ c.in_ok-text-in-Ok.ensures ∙ ap (λ (x : List ℕ). text_of (object_put x o.cycle)) c.as_slice-name.ensures in
+    let text = c.as_slice.ensures ∙ c.in_ok-text-in-Ok.ensures ∙ ap (λ (x : List ℕ). reply_text c.args.replies (object_put x o.cycle)) c.as_slice-name.ensures in
     let room = subst (λ (x : SessionState). is_full x.segments (c.padded-n.result ∷ []) c.need_with.result ≡ false) v c.in-Ok.ensures.room in
     put_is_done s o c.requires.can sound c.padded-n.result c.need_with.result long need
-    (g.H.Host.view c.args.host.now) (g.H.Host.view c.put_and_say.new.host) c.put_and_say.new.self (g.met.H.Host.lawful c.args.host.now) (g.met.H.Host.lawful c.put_and_say.new.host)
+    c.args.replies (g.H.Host.view c.args.host.now) (g.H.Host.view c.put_and_say.new.host) c.put_and_say.new.self (g.met.H.Host.lawful c.args.host.now) (g.met.H.Host.lawful c.put_and_say.new.host)
     c.requires.ready c.requires.fresh (omega (arith, ap (λ (x : SessionState). x.datime) v)) c.put_and_say.result (500 + c.from-length.result) (ap (λ (k : ℕ). 500 + k) c.from-length.ensures) command todo
     c.in-Ok.place c.in_ok-made-in-Ok.made c.as_slice.result.now (omega (arith, c.in-Ok.ensures.low)) c.in_ok-made-in-Ok.ensures text at room c.put_and_say.ensures.changes c.put_and_say.ensures.outcome
 
@@ -73,9 +73,9 @@ returns-in-Err-Full-clause-does g c command todo =
     let says = rw c.in-Err-Full.field-0-is at c.refuse.ensures.says in
     let outcome = rw c.in-Err-Full.field-0-is at c.refuse.ensures.outcome in
     full_is_said s o c.requires.can sound c.padded-n.result c.need_with.result long need
-    (g.H.Host.view c.args.host.now) (g.H.Host.view c.refuse.new.host) c.refuse.new.self (g.met.H.Host.lawful c.args.host.now) (g.met.H.Host.lawful c.refuse.new.host)
+    c.args.replies (g.H.Host.view c.args.host.now) (g.H.Host.view c.refuse.new.host) c.refuse.new.self (g.met.H.Host.lawful c.args.host.now) (g.met.H.Host.lawful c.refuse.new.host)
     c.requires.ready c.requires.fresh (omega (arith, ap (λ (x : SessionState). x.datime) v)) c.refuse.result (500 + c.from-length.result) (ap (λ (k : ℕ). 500 + k) c.from-length.ensures) command todo
     c.in-Err-Full.end c.in-Err-Full.wanted full.1 full.2 full.0 says outcome
 
 pub returns-in-Err-NoMemory-clause-does : goal.returns-in-Err-NoMemory-clause-does
-returns-in-Err-NoMemory-clause-does g c command todo = does_nothing (g.H.Host.view c.args.host.now) c.args.self.now command (g.met.H.Host.lawful c.args.host.now) c.requires.ready c.requires.fresh
+returns-in-Err-NoMemory-clause-does g c command todo = does_nothing c.args.replies (g.H.Host.view c.args.host.now) c.args.self.now command (g.met.H.Host.lawful c.args.host.now) c.requires.ready c.requires.fresh

@@ -2,16 +2,15 @@ use Rattle.std.proofs.{Common.{◌≡◌, ◌∙◌, ◌+◌, ◌-◌, ◌*◌, 
 use Rattle.std.specs.{Prelude.{IfSome}, List.{find}}
 use Rattle.rio_num.proofs.Cases.{none_from}
 use Rattle.rio_types.specs.declared.class.ClassDef.{ClassDef}
-use Rattle.rio_key.specs.declared.head.KeyHead.{KeyHead}
 use Rattle.rio_model.specs.StateClasses.{StateClasses}
 use Rattle.rio_chain.specs.{Placing.{end_after, places_of, space_of}, Plans.{IsFull}}
-use Rattle.rio_chain.specs.declared.fault.PlanFault.{PlanFault, TheVariants.{Full}}
+use Rattle.rio_chain.specs.declared.fault.PlanFault.TheVariants.{Full}
 use Rattle.rio_state.specs.Closing.{is_full}
 use Rattle.rio_tree.specs.{HeaderLength.{basket_count, header_length, header_size}, WrittenLaws.{stated_defs}, declared.head.TreeHead.{TreeHead}}
 use Rattle.rio_effect.specs.TreeRecords.{new_head}
-use Rattle.rio_step.specs.{Costs.{info_size}, ReplyText.{text_of}, Step.{tree_made}}
-use Rattle.rio_session.specs.{Fills.{is_tree_of}, Session.{SessionState}, Sound.{IsSoundState}, TreePlans.{head_now, lengths_with, making_now, need_of_tree, records_more}}
-use Rattle.rio_session.proofs.{PlanRoom.{plan_has_room, plan_lacks_room}, Replies.{does_nothing}, TreeDoes.{tree_is_done, tree_is_full}, TreePlanned.{bytes_are, first_low, header_short, none_named_so, planned_lengths, planned_need, planned_sum, size_low}}
+use Rattle.rio_step.specs.{Costs.{info_size}, Step.{tree_made}}
+use Rattle.rio_session.specs.{Fills.{is_tree_of}, Replying.{reply_text}, Session.{SessionState}, Sound.{IsSoundState}, TreePlans.{head_now, lengths_with, making_now, need_of_tree, records_more}}
+use Rattle.rio_session.proofs.{PlanRoom.{plan_has_room, plan_lacks_room}, OnlyReplies.{does_nothing}, TreeDoes.{tree_is_done, tree_is_full}, TreePlanned.{bytes_are, first_low, header_short, none_named_so, planned_lengths, planned_need, planned_sum, size_low}}
 use Rattle.rio_session.proofs.session.Session.tree.Goals as goal
 
 pub header_bytes-requires : goal.header_bytes-requires
@@ -25,30 +24,30 @@ header_bytes-requires g c =
 pub returns-in_err-header-clause-does : goal.returns-in_err-header-clause-does
 returns-in_err-header-clause-does g c command todo =
     let p = err_from_is_err_and c.from_residual-in_err-header.result c.from_residual-in_err-header.ensures.1 in
-    rw (p.1, p.2) (does_nothing (g.H.Host.view c.args.host.now) c.args.self.now command (g.met.H.Host.lawful c.args.host.now) c.requires.ready c.requires.fresh)
+    rw (p.1, p.2) (does_nothing c.args.replies (g.H.Host.view c.args.host.now) c.args.self.now command (g.met.H.Host.lawful c.args.host.now) c.requires.ready c.requires.fresh)
 
 pub returns-in_err-list_length-clause-does : goal.returns-in_err-list_length-clause-does
 returns-in_err-list_length-clause-does g c command todo =
     let p = err_from_is_err_and c.from_residual-in_err-list_length.result c.from_residual-in_err-list_length.ensures.1 in
-    rw (p.1, p.2) (does_nothing (g.H.Host.view c.args.host.now) c.args.self.now command (g.met.H.Host.lawful c.args.host.now) c.requires.ready c.requires.fresh)
+    rw (p.1, p.2) (does_nothing c.args.replies (g.H.Host.view c.args.host.now) c.args.self.now command (g.met.H.Host.lawful c.args.host.now) c.requires.ready c.requires.fresh)
 
 pub returns-in_err-lengths-clause-does : goal.returns-in_err-lengths-clause-does
 returns-in_err-lengths-clause-does g c command todo =
     let p = err_from_is_err_and c.from_residual-in_err-lengths.result c.from_residual-in_err-lengths.ensures.1 in
-    rw (p.1, p.2) (does_nothing (g.H.Host.view c.args.host.now) c.args.self.now command (g.met.H.Host.lawful c.args.host.now) c.requires.ready c.requires.fresh)
+    rw (p.1, p.2) (does_nothing c.args.replies (g.H.Host.view c.args.host.now) c.args.self.now command (g.met.H.Host.lawful c.args.host.now) c.requires.ready c.requires.fresh)
 
 pub returns-in_err-text-in-Ok-clause-does : goal.returns-in_err-text-in-Ok-clause-does
 returns-in_err-text-in-Ok-clause-does g c command todo =
     let p = err_from_is_err_and c.from_residual-in_err-text-in-Ok.result c.from_residual-in_err-text-in-Ok.ensures.1 in
-    rw (p.1, p.2) (does_nothing (g.H.Host.view c.args.host.now) c.args.self.now command (g.met.H.Host.lawful c.args.host.now) c.requires.ready c.requires.fresh)
+    rw (p.1, p.2) (does_nothing c.args.replies (g.H.Host.view c.args.host.now) c.args.self.now command (g.met.H.Host.lawful c.args.host.now) c.requires.ready c.requires.fresh)
 
 pub returns-in_err-made-in-Ok-clause-does : goal.returns-in_err-made-in-Ok-clause-does
 returns-in_err-made-in-Ok-clause-does g c command todo =
     let p = err_from_is_err_and c.from_residual-in_err-made-in-Ok.result c.from_residual-in_err-made-in-Ok.ensures.1 in
-    rw (p.1, p.2) (does_nothing (g.H.Host.view c.args.host.now) c.args.self.now command (g.met.H.Host.lawful c.args.host.now) c.requires.ready c.requires.fresh)
+    rw (p.1, p.2) (does_nothing c.args.replies (g.H.Host.view c.args.host.now) c.args.self.now command (g.met.H.Host.lawful c.args.host.now) c.requires.ready c.requires.fresh)
 
 pub returns-clause-does : goal.returns-clause-does
-returns-clause-does g c command todo = does_nothing (g.H.Host.view c.args.host.now) c.args.self.now command (g.met.H.Host.lawful c.args.host.now) c.requires.ready c.requires.fresh
+returns-clause-does g c command todo = does_nothing c.args.replies (g.H.Host.view c.args.host.now) c.args.self.now command (g.met.H.Host.lawful c.args.host.now) c.requires.ready c.requires.fresh
 
 pub make_tree-requires-clause-header : goal.make_tree-requires-clause-header
 make_tree-requires-clause-header g c =
@@ -177,8 +176,8 @@ returns-in-Ok-clause-does g c command todo =
     subst (λ (x : List ℕ × ℕ). is_full s.segments x.0 x.1 ≡ false) (λ i. (lengths i, need i)) (plan_has_room s.segments c.in_ok-lengths.lengths c.need_with_tree-need.result c.saturating_sub.result c.saturating_sub.ensures end) in
     let sound : IsSoundState s = subst IsSoundState v (record { classes = c.self.invariant.classes; kept = c.self.invariant.kept }) in
     let cost : 600 + c.in_ok-list_length.list_length + 2 * c.in_ok-header.header ≡ 600 + info_size s.classes + 2 * header_size new.name new.branches = λ i. 600 + c.in_ok-list_length.ensures.exact i + 2 * header i in
-    let text = c.as_slice-in-Ok-2.ensures ∙ c.in_ok-text-in-Ok.ensures ∙ ap (λ (n : List ℕ). text_of (tree_made n 1)) c.as_slice-in-Ok.ensures in
-    tree_is_done c.headers_have_records.ensures (g.H.Host.view c.args.host.now) (g.H.Host.view c.put_tree.new.host) s c.put_tree.new.self (g.met.H.Host.lawful c.args.host.now) (g.met.H.Host.lawful c.put_tree.new.host)
+    let text = c.as_slice-in-Ok-2.ensures ∙ c.in_ok-text-in-Ok.ensures ∙ ap (λ (n : List ℕ). reply_text c.args.replies (tree_made n 1)) c.as_slice-in-Ok.ensures in
+    tree_is_done c.args.replies c.headers_have_records.ensures (g.H.Host.view c.args.host.now) (g.H.Host.view c.put_tree.new.host) s c.put_tree.new.self (g.met.H.Host.lawful c.args.host.now) (g.met.H.Host.lawful c.put_tree.new.host)
     c.requires.ready c.requires.fresh sound soon c.put_tree.result new own (600 + c.in_ok-list_length.list_length + 2 * c.in_ok-header.header) cost command todo
     c.as_slice-in-Ok-2.result.now text room (c.put_tree.ensures.changes new.name new.branches c.in_ok-made-in-Ok.ensures) c.put_tree.ensures.outcome
 
@@ -204,6 +203,6 @@ returns-in-Err-Full-clause-does g c command todo =
     let fault = subst (λ (x : SessionState). IsFull x.segments c.in_ok-lengths.lengths c.saturating_sub.result (Full c.in-Err-Full.end c.in-Err-Full.wanted)) v (subst (IsFull c.self.inside.chain.segments c.in_ok-lengths.lengths c.saturating_sub.result) c.in-Err-Full.field-0-is c.in-Err-Full.ensures.full) in
     let full : is_full s.segments (making_now s new.name new.branches).lengths (need_of_tree s new.name (length (making_now s new.name new.branches).lengths)) ≡ true =
     subst (λ (x : List ℕ × ℕ). is_full s.segments x.0 x.1 ≡ true) (λ i. (lengths i, need i)) (plan_lacks_room s.segments c.in_ok-lengths.lengths c.need_with_tree-need.result c.saturating_sub.result c.saturating_sub.ensures fault.0) in
-    tree_is_full c.headers_have_records.ensures (g.H.Host.view c.args.host.now) (g.H.Host.view c.refuse.new.host) s c.refuse.new.self (g.met.H.Host.lawful c.args.host.now) (g.met.H.Host.lawful c.refuse.new.host)
+    tree_is_full c.args.replies c.headers_have_records.ensures (g.H.Host.view c.args.host.now) (g.H.Host.view c.refuse.new.host) s c.refuse.new.self (g.met.H.Host.lawful c.args.host.now) (g.met.H.Host.lawful c.refuse.new.host)
     c.requires.ready c.requires.fresh sound soon c.refuse.result new own (600 + c.in_ok-list_length.list_length + 2 * c.in_ok-header.header) cost command todo
     c.in-Err-Full.end c.in-Err-Full.wanted fault.1 (fault.2 ∙ ap sum lengths) full c.refuse.ensures.says c.refuse.ensures.outcome

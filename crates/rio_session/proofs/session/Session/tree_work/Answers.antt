@@ -19,5 +19,5 @@ returns-in-Delete-clause-does g c command todo = c.delete.ensures.does command (
 
 pub returns-in-Scan-clause-does : goal.returns-in-Scan-clause-does
 returns-in-Scan-clause-does g c command todo =
-    scan_is_done (g.H.Host.view c.args.host.now) (g.H.Host.view c.scan.new.host) c.args.self.now c.scan.new.self (g.met.H.Host.lawful c.args.host.now) (g.met.H.Host.lawful c.scan.new.host) c.requires.ready c.requires.fresh c.scan.result
+    scan_is_done c.args.replies (g.H.Host.view c.args.host.now) (g.H.Host.view c.scan.new.host) c.args.self.now c.scan.new.self (g.met.H.Host.lawful c.args.host.now) (g.met.H.Host.lawful c.scan.new.host) c.requires.ready c.requires.fresh c.scan.result
     command c.in-Scan.head c.in-Scan.class (subst (λ (w : TreeWork). IsToDo c.args.self.now command (Tree w)) c.in-Scan.is todo) (subst (λ (w : TreeWork). AnyCanBeDone c.args.self.now (Tree w)) c.in-Scan.is c.requires.can).1 c.scan.ensures.sound c.scan.ensures.tells

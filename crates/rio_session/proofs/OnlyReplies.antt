@@ -1,4 +1,4 @@
--- Commands that do no more than say a reply.
+-- Commands that do no more than print a reply.
 use Rattle.std.proofs.Common.{◌≡◌, inl, inr, ⊎_elim, ℕ, ◌+◌, ◌*◌, ◌-◌, ◌^◌, ◌<◌, ◌≤◌, min, false, List, [], ◌++◌, take, Option, Some, None, Result, Ok, Err, IfOk, refl, sym, ap, subst, ◌∙◌, arith}
 use Rattle.std.proofs.lemmas.List.{append-nil}
 use Rattle.rio_host.specs.{Host.{Any, Becomes, Elapses, IsLawful, Leaves, Longer, LongerByPart, Rose, Speaking, Unwritten, View}, OnlyReads.{OnlyReads}}
@@ -8,11 +8,11 @@ use Rattle.rio_machine.specs.{State.{State}, declared.command.Command.{Command}}
 use Rattle.rio_machine.specs.declared.command.Outcome.{Outcome, TheVariants.{Accepted, Refused}}
 use Rattle.rio_state.specs.{Closing.{held_with}, TreeLengths.{pending_in}}
 use Rattle.rio_step.specs.{Costs.{cost_of}, ReplyText.{text_of}, Step.{Stepped, outcome_of}}
-use Rattle.rio_session.specs.{Behind.{FollowsStep, HasChanged, IsOfKeys, IsToldByKeys}, Causes.{IsSaid, StaysIfRefused}, Does.{Does}}
+use Rattle.rio_session.specs.{Behind.{FollowsStep, HasChanged, IsOfKeys, IsToldByKeys}, Causes.{IsSaid, StaysIfRefused}, Does.{Does, OmitsReply}, Replying.{Replies, printed_of, reply_text}}
 use Rattle.rio_session.specs.{Kept.{LinksChange, all_done, changes_after, changes_by, kept_after, kept_by}, Says.{NotSaid, Said, SaysReply}}
 use Rattle.rio_session.specs.Session.{FollowsCommand, HoldsState, IsOpenAs, IsReady, LacksRoomIfFull, LeavesOpenAs, SessionState, StandsFor, Steps, Went, next_of, with_cost}
-use Rattle.rio_session.specs.declared.fault.SessionFault.{SessionFault, TheVariants.{HostFault, SayFault, NoMemory}}
-use Rattle.rio_session.proofs.{Opened.{keeps_own, reads_open}, Refused.{changes_done, kept_done, unrefused}, Spoken.{front_none, front_part, front_whole, grows_none, grows_whole, reads_stay, speaking_stays}}
+use Rattle.rio_session.specs.declared.{fault.SessionFault.{SessionFault, TheVariants.{HostFault, SayFault, NoMemory}}, replies.Replies.TheVariants.{Printed, Omitted}}
+use Rattle.rio_session.proofs.{Opened.{keeps_own, reads_open}, Refused.{changes_done, kept_done, unrefused}, Spoken.{empty_if_same, front_none, front_part, front_whole, grows_none, grows_whole, reads_stay, same_if_empty, speaking_stays}}
 use Rattle.rio_session.proofs.States.{of_keys}
 
 -- ---- what is told
@@ -74,10 +74,33 @@ counted_state s cost m file h = record {
   held = held_costs (held_with (pending_in m) h.links) (3 * s.opened) s.costs cost h.held;
 }
 
-module _ (old new : View) (before after : SessionState) (text : List ℕ) (cost : ℕ) (lawful : IsLawful old) (lawful' : IsLawful new) (ready : IsReady old before) where
+-- ---- nothing printed
+
+-- where replies are omitted the text is empty, and nothing is printed
+omits_reply : (replies : Replies) (text : List ℕ) (cost : ℕ) (old new : View) (before after : SessionState) (answer : Result Outcome SessionFault) → SaysReply (printed_of replies text) cost old new before after answer
+    → OmitsReply replies old new answer
+omits_reply Printed text cost old new before after answer is = tt
+omits_reply Omitted text cost old new before after (Ok outcome) is = record { said = same_if_empty old.said new.said is.says; no_fault = λ e. absurd cc }
+omits_reply Omitted text cost old new before after (Err HostFault) is = record { said = is.calls.said; no_fault = λ e. absurd cc }
+omits_reply Omitted text cost old new before after (Err SayFault) is = record { said = absurd (is.some refl); no_fault = λ e. is.some refl }
+omits_reply Omitted text cost old new before after (Err NoMemory) is = record { said = is.calls.said; no_fault = λ e. absurd cc }
+
+-- an empty text is printed by no call of the host
+pub empty_said : (text : List ℕ) (cost : ℕ) (v : View) (before after : SessionState) → text ≡ [] → after ≡ record before { costs = min (before.costs + cost) (2 ^ 64 - 1) } → Said text cost v v before after
+empty_said text cost v before after empty counted = record {
+  time = elapses_as (Speaking text v) (Leaves v) (reads_none v).time (λ i t left. (t, left, (0, sym (append-nil t))));
+  holds = refl;
+  says = subst (λ (l : List ℕ). Becomes (Longer l) v.said v.said) (sym empty) (empty_if_same v.said);
+  faults = (refl, refl);
+  kept = counted;
+}
+
+-- ---- in all clauses
+
+module _ (replies : Replies) (old new : View) (before after : SessionState) (text : List ℕ) (cost : ℕ) (lawful : IsLawful old) (lawful' : IsLawful new) (ready : IsReady old before) where
   -- what a stop leaves while the reply is said
-  pub speaks : (m : State) (c : Command) (said : List ℕ) → Elapses old new (Speaking text old) → IsReply before m c text cost → StandsFor old before m said → Elapses old new (Steps m (next_of before m c) said)
-  speaks m c said time reply s = elapses_as (Steps m next said) (Speaking text old) time (λ i t spoken. inr (open_now i spoken.0 spoken.1, (spoken.2.0, told i t spoken.0 spoken.1 spoken.2.0 spoken.2.1)))
+  pub speaks : (m : State) (c : Command) (said : List ℕ) → Elapses old new (Speaking (printed_of replies text) old) → IsReply before m c text cost → StandsFor old before m said → Elapses old new (Steps replies m (next_of before m c) said)
+  speaks m c said time reply s = elapses_as (Steps replies m next said) (Speaking (printed_of replies text) old) time (λ i t spoken. inr (open_now i spoken.0 spoken.1, (spoken.2.0, told i t spoken.0 spoken.1 spoken.2.0 spoken.2.1)))
     where
       next : Stepped
       next = next_of before m c
@@ -87,30 +110,30 @@ module _ (old new : View) (before after : SessionState) (text : List ℕ) (cost 
           let is = ready.quiet i t s.file left s.holds in
           subst (λ (n : State). IsOpenAs n i) (sym reply.still.stays) (subst (λ (f : List ℕ). IsOpenAs m f) (sym is) (reads_open s.file before.nbytes_name s.state.links m s.state.head s.state.chain.chain s.state.records))
 
-      told : (i t u : List ℕ) → Leaves old i u → (k : ℕ) → t ≡ u ++ take k text → t ≡ said ++ take k (text_of (next_of before m c).reply)
+      told : (i t u : List ℕ) → Leaves old i u → (k : ℕ) → t ≡ u ++ take k (printed_of replies text) → t ≡ said ++ take k (reply_text replies (next_of before m c).reply)
       told i t u left k is =
-          is ∙ ap (λ (l : List ℕ). l ++ take k text) (lawful.text i u said left s.said) ∙ ap (λ (l : List ℕ). said ++ take k l) reply.text_is
+          is ∙ ap (λ (l : List ℕ). l ++ take k (printed_of replies text)) (lawful.text i u said left s.said) ∙ ap (λ (l : List ℕ). said ++ take k (printed_of replies l)) reply.text_is
 
   -- nothing was written or said
-  pub read_steps : (m : State) (c : Command) (said : List ℕ) → OnlyReads old new → StandsFor old before m said → Elapses old new (Steps m (next_of before m c) said)
-  read_steps m c said calls s = elapses_as (Steps m (next_of before m c) said) (Leaves old) calls.time (λ i t left. inl (
+  pub read_steps : (m : State) (c : Command) (said : List ℕ) → OnlyReads old new → StandsFor old before m said → Elapses old new (Steps replies m (next_of before m c) said)
+  read_steps m c said calls s = elapses_as (Steps replies m (next_of before m c) said) (Leaves old) calls.time (λ i t left. inl (
     subst (λ (f : List ℕ). IsOpenAs m f) (sym (ready.quiet i t s.file left s.holds)) (reads_open s.file before.nbytes_name s.state.links m s.state.head s.state.chain.chain s.state.records),
     lawful.text i t said left s.said,
   ))
 
   -- session and host, once it is said
-  pub said_stands : (m : State) (c : Command) (said : List ℕ) → Said text cost old new before after → IsReply before m c text cost → StandsFor old before m said
-      → StandsFor new after (next_of before m c).state (said ++ text_of (next_of before m c).reply)
+  pub said_stands : (m : State) (c : Command) (said : List ℕ) → Said (printed_of replies text) cost old new before after → IsReply before m c text cost → StandsFor old before m said
+      → StandsFor new after (next_of before m c).state (said ++ reply_text replies (next_of before m c).reply)
   said_stands m c said is reply s =
-      let grown = becomes_some (Longer text) old.said new.said said s.said is.says in
+      let grown = becomes_some (Longer (printed_of replies text)) old.said new.said said s.said is.says in
       record {
         file = s.file;
         holds = is.holds ∙ s.holds;
-        said = grown.1 ∙ ap (λ (l : List ℕ). let o : Option (List ℕ) = Some l in o) (grown.2 ∙ ap (λ (l : List ℕ). said ++ l) reply.text_is);
+        said = grown.1 ∙ ap (λ (l : List ℕ). let o : Option (List ℕ) = Some l in o) (grown.2 ∙ ap (λ (l : List ℕ). said ++ printed_of replies l) reply.text_is);
         state = subst (λ (n : State). HoldsState after n s.file) (sym reply.still.stays) (subst (λ (a : SessionState). HoldsState a m s.file) (sym is.kept) (counted_state before cost m s.file s.state));
       }
 
-  said_follows : (m : State) (c : Command) → Said text cost old new before after → IsStill before m c cost → FollowsCommand before after m c
+  said_follows : (m : State) (c : Command) → Said (printed_of replies text) cost old new before after → IsStill before m c cost → FollowsCommand before after m c
   said_follows m c is still = is.kept ∙ (λ i. with_cost (still.cost_is i) (sym still.kept i))
 
   -- an accepted command that does no more has no changes
@@ -119,7 +142,7 @@ module _ (old new : View) (before after : SessionState) (text : List ℕ) (cost 
       let free = unrefused before m c (sym same ∙ accepted) in
       record { changes = sym (changes_done before m c free) ∙ still.changes; kept = sym (kept_done before m c free) ∙ still.kept }
 
-  said_changed : (m : State) (c : Command) → Said text cost old new before after → IsStill before m c cost → HasNoChanges before m c → HasChanged old new before after m c
+  said_changed : (m : State) (c : Command) → Said (printed_of replies text) cost old new before after → IsStill before m c cost → HasNoChanges before m c → HasChanged old new before after m c
   said_changed m c is still none = record {
     kept = is.kept ∙ (λ i. with_cost (still.cost_is i) (sym none.kept i));
     file = λ file links holds chain. (
@@ -130,7 +153,7 @@ module _ (old new : View) (before after : SessionState) (text : List ℕ) (cost 
     );
   }
 
-  said_goes : (m : State) (c : Command) (outcome : Outcome) → Said text cost old new before after → IsOfKeys before m → IsStill before m c cost
+  said_goes : (m : State) (c : Command) (outcome : Outcome) → Said (printed_of replies text) cost old new before after → IsOfKeys before m → IsStill before m c cost
       → (IsToldByKeys c → outcome ≡ outcome_of (next_of before m c).reply) → FollowsStep before after m c outcome
   said_goes m c outcome is keys still same = record {
     outcome_is = same;
@@ -138,8 +161,8 @@ module _ (old new : View) (before after : SessionState) (text : List ℕ) (cost 
     behind = subst (λ (n : State). IsOfKeys after n) (sym still.stays) (subst (λ (a : SessionState). IsOfKeys a m) (sym is.kept) (record { classes = keys.classes; keys = keys.keys; trees = keys.trees }));
   }
 
-  pub said_went : (m : State) (c : Command) (said : List ℕ) (outcome : Outcome) → Said text cost old new before after → IsReply before m c text cost → outcome ≡ outcome_of (next_of before m c).reply
-      → LacksRoomIfFull after outcome → StandsFor old before m said → Went old new before after m c said outcome
+  pub said_went : (m : State) (c : Command) (said : List ℕ) (outcome : Outcome) → Said (printed_of replies text) cost old new before after → IsReply before m c text cost → outcome ≡ outcome_of (next_of before m c).reply
+      → LacksRoomIfFull after outcome → StandsFor old before m said → Went replies old new before after m c said outcome
   said_went m c said outcome is reply same full s = record {
     time = speaks m c said is.time reply s;
     stands = said_stands m c said is reply s;
@@ -149,22 +172,22 @@ module _ (old new : View) (before after : SessionState) (text : List ℕ) (cost 
   }
 
   -- what it leaves, where it could not be said
-  unsaid_open : (m : State) (c : Command) (said : List ℕ) → NotSaid text old new after → IsStill before m c cost → StandsFor old before m said → LeavesOpenAs new (next_of before m c).state
+  unsaid_open : (m : State) (c : Command) (said : List ℕ) → NotSaid (printed_of replies text) old new after → IsStill before m c cost → StandsFor old before m said → LeavesOpenAs new (next_of before m c).state
   unsaid_open m c said is still s image spoken left =
-      let same : image ≡ s.file = says_quiet text lawful' ready.quiet is.time is.holds image spoken s.file left (is.holds ∙ s.holds) in
+      let same : image ≡ s.file = says_quiet (printed_of replies text) lawful' ready.quiet is.time is.holds image spoken s.file left (is.holds ∙ s.holds) in
       subst (λ (n : State). IsOpenAs n image) (sym still.stays)
       (subst (λ (f : List ℕ). IsOpenAs m f) (sym same) (reads_open s.file before.nbytes_name s.state.links m s.state.head s.state.chain.chain s.state.records))
 
-  pub said_ready : Said text cost old new before after → IsReady new after
+  pub said_ready : Said (printed_of replies text) cost old new before after → IsReady new after
   said_ready is = record {
-    quiet = says_quiet text lawful' ready.quiet is.time is.holds;
+    quiet = says_quiet (printed_of replies text) lawful' ready.quiet is.time is.holds;
     chain = λ file told. let c = ready.chain file (sym is.holds ∙ told) in subst (λ (a : SessionState). (links : List Link) × HasChain links a.segments file) (sym is.kept) c;
   }
 
-  said_unwritten : Elapses old new (Speaking text old) → Unwritten old new
-  said_unwritten time = elapses_as _ (Speaking text old) time (λ i t spoken. (spoken.0, spoken.1))
+  said_unwritten : Elapses old new (Speaking (printed_of replies text) old) → Unwritten old new
+  said_unwritten time = elapses_as _ (Speaking (printed_of replies text) old) time (λ i t spoken. (spoken.0, spoken.1))
 
-  pub said_stays : (outcome : Outcome) → Said text cost old new before after → StaysIfRefused old new outcome
+  pub said_stays : (outcome : Outcome) → Said (printed_of replies text) cost old new before after → StaysIfRefused old new outcome
   said_stays Accepted is = tt
   said_stays (Refused refusal) is = (is.holds, said_unwritten is.time)
 
@@ -180,30 +203,30 @@ module _ (old new : View) (before after : SessionState) (text : List ℕ) (cost 
     costs_so spoken m said s full =
         subst (λ (n : ℕ). LacksRoomIfFull (with_cost n before) (outcome_of (next_of before m c).reply)) (still spoken m (of_keys before m s.file s.state)).cost_is full
 
-    after_so : (outcome : Outcome) → Said text cost old new before after → (m : State) → outcome ≡ outcome_of (next_of before m c).reply
+    after_so : (outcome : Outcome) → Said (printed_of replies text) cost old new before after → (m : State) → outcome ≡ outcome_of (next_of before m c).reply
         → LacksRoomIfFull (with_cost cost before) (outcome_of (next_of before m c).reply) → LacksRoomIfFull after outcome
     after_so outcome is m same full =
         subst (λ (a : SessionState). LacksRoomIfFull a outcome) (sym is.kept) (subst (λ (o : Outcome). LacksRoomIfFull (with_cost cost before) o) (sym same) full)
 
-  pub does_reply : (c : Command) (answer : Result Outcome SessionFault) → before.failed ≡ false → SaysReply text cost old new before after answer
+  pub does_reply : (c : Command) (answer : Result Outcome SessionFault) → before.failed ≡ false → SaysReply (printed_of replies text) cost old new before after answer
       → (IsSaid answer → (m : State) → IsOfKeys before m → IsStill before m c cost)
       → (IsSaid answer → (m : State) (said : List ℕ) → StandsFor old before m said → text ≡ text_of (next_of before m c).reply)
       → IfOk answer (IsOutcomeOf old before c)
       → (IsSaid answer → (m : State) (said : List ℕ) → StandsFor old before m said → LacksRoomIfFull (with_cost cost before) (outcome_of (next_of before m c).reply))
-      → Does old new before after c answer
+      → Does replies old new before after c answer
   does_reply c (Ok outcome) fresh is still told became full = record {
     file = record {
       any_moment = tt;
       told = told_same old.holds new.holds is.holds;
       refused = said_stays outcome is;
-      unwritten = λ m keys none. speaking_stays text old new is.holds is.time;
+      unwritten = λ m keys none. speaking_stays (printed_of replies text) old new is.holds is.time;
       changed = λ m keys accepted. said_changed m c is (still tt m keys) (became.plain m keys accepted);
       unsaid = λ e. absurd cc;
     };
     text = record {
-      said = grows_whole text old.said new.said is.says;
+      said = grows_whole (printed_of replies text) old.said new.said is.says;
       silent = λ none. absurd none;
-      part = λ m said s. front_whole old new said text (text_of (next_of before m c).reply) s.said (told tt m said s) is.says;
+      part = λ m said s. front_whole old new said (printed_of replies text) (reply_text replies (next_of before m c).reply) s.said (ap (printed_of replies) (told tt m said s)) is.says;
       lacks = λ spoken m said s. costs_so c (Ok outcome) still told tt m said s (full tt m said s);
     };
     kept = record {
@@ -216,6 +239,7 @@ module _ (old new : View) (before after : SessionState) (text : List ℕ) (cost 
       no_memory = λ e. absurd cc;
       cause = is.faults;
     };
+    omits = omits_reply replies text cost old new before after (Ok outcome) is;
   }
   does_reply c (Err HostFault) fresh is still told became full = record {
     file = record {
@@ -229,7 +253,7 @@ module _ (old new : View) (before after : SessionState) (text : List ℕ) (cost 
     text = record {
       said = grows_none old.said new.said is.calls.said;
       silent = λ none. is.calls.said;
-      part = λ m said s. front_none old new said (text_of (next_of before m c).reply) s.said is.calls.said;
+      part = λ m said s. front_none old new said (reply_text replies (next_of before m c).reply) s.said is.calls.said;
       lacks = λ spoken. absurd spoken;
     };
     kept = record {
@@ -240,20 +264,21 @@ module _ (old new : View) (before after : SessionState) (text : List ℕ) (cost 
       no_memory = λ e. absurd cc;
       cause = is.faults;
     };
+    omits = omits_reply replies text cost old new before after (Err HostFault) is;
   }
   does_reply c (Err SayFault) fresh is still told became full = record {
     file = record {
       any_moment = λ m said s. speaks m c said is.time (reply c (Err SayFault) still told tt m said s) s;
       told = told_same old.holds new.holds is.holds;
       refused = tt;
-      unwritten = λ m keys none. speaking_stays text old new is.holds is.time;
+      unwritten = λ m keys none. speaking_stays (printed_of replies text) old new is.holds is.time;
       changed = tt;
       unsaid = λ e m said s. unsaid_open m c said is (still tt m (of_keys before m s.file s.state)) s;
     };
     text = record {
-      said = said_grows text old.said new.said is.says;
+      said = said_grows (printed_of replies text) old.said new.said is.says;
       silent = λ none. absurd none;
-      part = λ m said s. front_part old new said text (text_of (next_of before m c).reply) s.said (told tt m said s) is.says;
+      part = λ m said s. front_part old new said (printed_of replies text) (reply_text replies (next_of before m c).reply) s.said (ap (printed_of replies) (told tt m said s)) is.says;
       lacks = λ spoken m said s. costs_so c (Err SayFault) still told tt m said s (full tt m said s);
     };
     kept = record {
@@ -264,6 +289,7 @@ module _ (old new : View) (before after : SessionState) (text : List ℕ) (cost 
       no_memory = λ e. absurd cc;
       cause = is.faults;
     };
+    omits = omits_reply replies text cost old new before after (Err SayFault) is;
   }
   does_reply c (Err NoMemory) fresh is still told became full = record {
     file = record {
@@ -277,7 +303,7 @@ module _ (old new : View) (before after : SessionState) (text : List ℕ) (cost 
     text = record {
       said = grows_none old.said new.said is.calls.said;
       silent = λ none. is.calls.said;
-      part = λ m said s. front_none old new said (text_of (next_of before m c).reply) s.said is.calls.said;
+      part = λ m said s. front_none old new said (reply_text replies (next_of before m c).reply) s.said is.calls.said;
       lacks = λ spoken. absurd spoken;
     };
     kept = record {
@@ -288,6 +314,7 @@ module _ (old new : View) (before after : SessionState) (text : List ℕ) (cost 
       no_memory = λ e. (is.kept, is.calls);
       cause = is.faults;
     };
+    omits = omits_reply replies text cost old new before after (Err NoMemory) is;
   }
 
   -- where the kept keys tell what becomes of the command
@@ -300,12 +327,12 @@ module _ (old new : View) (before after : SessionState) (text : List ℕ) (cost 
   }
   outcome_by_keys c (Err e) still same = tt
 
-  pub does_says : (c : Command) (answer : Result Outcome SessionFault) → before.failed ≡ false → SaysReply text cost old new before after answer
+  pub does_says : (c : Command) (answer : Result Outcome SessionFault) → before.failed ≡ false → SaysReply (printed_of replies text) cost old new before after answer
       → (IsSaid answer → (m : State) → IsOfKeys before m → IsStill before m c cost)
       → (IsSaid answer → (m : State) (said : List ℕ) → StandsFor old before m said → text ≡ text_of (next_of before m c).reply)
       → IfOk answer (λ outcome. (m : State) → IsOfKeys before m → outcome ≡ outcome_of (next_of before m c).reply)
       → (IsSaid answer → (m : State) (said : List ℕ) → StandsFor old before m said → LacksRoomIfFull (with_cost cost before) (outcome_of (next_of before m c).reply))
-      → Does old new before after c answer
+      → Does replies old new before after c answer
   does_says c answer fresh is still told same full = does_reply c answer fresh is still told (outcome_by_keys c answer still same) full
 
 -- ---- calls that read, and then a reply
@@ -334,6 +361,7 @@ module _ (text : List ℕ) (old mid new : View) (law : IsLawful mid) (calls : On
     time = time_before is.time;
     holds = is.holds ∙ calls.holds;
     says = subst (λ (o : Option (List ℕ)). Becomes (LongerByPart text) o new.said) calls.said is.says;
+    some = is.some;
     faults = (is.faults.0 ∙ disk, subst (λ (n : ℕ). Rose n new.say_faults) calls.say_faults is.faults.1);
     failed = is.failed;
   }
@@ -354,6 +382,6 @@ module _ (text : List ℕ) (old mid new : View) (law : IsLawful mid) (calls : On
 
 -- ---- nothing done
 
-pub does_nothing : (v : View) (s : SessionState) (c : Command) → IsLawful v → IsReady v s → s.failed ≡ false → Does v v s s c (Err NoMemory)
-does_nothing v s c law ready fresh =
-    does_says v v s s [] 0 law law ready c (Err NoMemory) fresh (record { calls = reads_none v; faults = (refl, refl); kept = refl }) (λ said. absurd said) (λ said. absurd said) tt (λ said. absurd said)
+pub does_nothing : (replies : Replies) (v : View) (s : SessionState) (c : Command) → IsLawful v → IsReady v s → s.failed ≡ false → Does replies v v s s c (Err NoMemory)
+does_nothing replies v s c law ready fresh =
+    does_says replies v v s s [] 0 law law ready c (Err NoMemory) fresh (record { calls = reads_none v; faults = (refl, refl); kept = refl }) (λ said. absurd said) (λ said. absurd said) tt (λ said. absurd said)
