@@ -219,6 +219,57 @@ cp bad.root kept.root
 check "a tree that counts wrong" $? 7 "" "rootio: read only at $place: BadTree"
 cmp -s bad.root kept.root || fail "a tree that counts wrong: the file has changed"
 
+# The rows of a CSV text become a tree, which is exported as the same lines; a second import fills it further. Lines may end with two bytes and
+# the last one with none, and a row that doesn't fit is refused in its place.
+printf '%s\n' '1,"a,b"' '2,' '3,c' '4,"say ""hi"""' '5,e' '6,f' >rows.csv
+"$program" import rows.root T 4 id=id/I name=name/C <rows.csv >said 2>told
+check "an import" $? 0 'ok tree T;1
+ok fill T 0
+ok fill T 1
+ok fill T 2
+ok fill T 3
+ok save T;2 4
+ok fill T 4
+ok fill T 5' ""
+"$program" export rows.root T </dev/null >said 2>told
+check "an export of what was imported" $? 0 "$(cat rows.csv)" ""
+cmp -s said rows.csv || fail "an export of what was imported: the lines aren't those of the text"
+printf '7,g\r\nx,h\r\n8,"two\r\nlines"' | "$program" import rows.root T 0 id=id/I name=name/C >said 2>told
+check "an import into a tree that is there" $? 0 'no 7 NameInUse
+ok fill T 6
+no 12 BadRow
+ok fill T 7' ""
+"$program" scan rows.root T </dev/null >said 2>told
+[ "$(head -n 2 said)" = 'ok scan T 8
+0 [1, "a,b"]' ] || fail "scan of an import: said '$(cat said)'"
+[ "$(tail -n 2 said)" = '6 [7, "g"]
+7 [8, "two\x0d\nlines"]' ] || fail "scan of an import: said '$(cat said)'"
+"$program" import none.root T 1000001 x=x/I <rows.csv >said 2>told
+check "an import with too great a number" $? 1 "" "rootio: usage: rootio VERB FILE ARG..."
+"$program" import none.root T 0 x=x/I <&- >said 2>told
+check "an import with its input closed" $? 4 "" "rootio: input fault"
+[ ! -e none.root ] || fail "an import that isn't done: there is a file"
+
+# A large file is made from a number, and no file that is there. A write that fails, here since the file may not grow, loses nothing
+# that was saved.
+"$program" gen large.root 100000 <&- >said 2>told
+check "a generated file" $? 0 'gen 100000 entries 20 branches 260 baskets sum 1999999000000' ""
+cp large.root kept.root
+"$program" gen large.root 1 </dev/null >said 2>told
+check "a file that isn't new" $? 7 "" "rootio: read only at 0: NotNew"
+cmp -s large.root kept.root || fail "a file that isn't new: it has changed"
+printf '%s\n' 'fill G [0, 1, 2, 3, 4, 5, 6, 7, 8, 9, 10, 11, 12, 13, 14, 15, 16, 17, 18, 19]' 'save G' >filled
+blocks=$((($(wc -c <large.root) + 511) / 512))
+(trap '' XFSZ && ulimit -f $blocks && exec "$program" run large.root <filled >said 2>told)
+check "a write that fails" $? 3 'ok fill G 100000' "rootio: disk fault"
+"$program" recover large.root </dev/null >said 2>told
+check "recover of a large file" $? 0 'G;2 TTree' ""
+"$program" scan large.root G </dev/null >said 2>told || fail "scan of a large file: told '$(cat told)'"
+[ "$(wc -l <said)" -eq 100001 ] || fail "scan of a large file: $(wc -l <said) lines, not 100001"
+[ "$(head -n 1 said)" = 'ok scan G 100000' ] || fail "scan of a large file: said '$(head -n 1 said)'"
+[ "$(tail -n 1 said)" = "99999 [$(seq -s ', ' 1999980 1999999)]" ] || fail "scan of a large file: said '$(tail -n 1 said)'"
+rm large.root kept.root
+
 # Near the limit (sparse files of 2 GB) a class list that declares no class counts in what a close may need: 132 bytes for two
 # records that are kept, under this name. The third record is of a basket of no tree, and is neither read nor kept. What is
 # closed there has no room for another close. A program that reads the basket whole has no memory for it.

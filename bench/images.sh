@@ -2,9 +2,9 @@
 # A random walk of commands over one file in memory, cut off at random moments: of the writes in flight then nothing is left, all,
 # the first bytes, or other bytes in their range, by chance.
 # Usage: [COMMANDS=100000] [RUNS=100] [SEED=1] [SECONDS_ALL=3000] bench/images.sh (proves nothing: it builds a small program over a
-# copy of the crates, with checks). RUNS scripts of put, delete, get, ls and class, many of them refused, go over the file one after
-# the other; each begins on the crash image that the one before left, and every third is cut off at its end. The replies that were
-# printed have to be those of a model in Python, and `recover` has to find what the model has after as many commands, or one more.
+# copy of the crates, with checks). RUNS scripts of commands, many of them refused, go over the file one after the other; each begins
+# on the crash image that the one before left, and every third is cut off at its end. The replies that were printed have to be those of
+# a model in Python, and `recover` has to find what the model has after as many commands, or one more, or after saves of the close.
 set -eu
 top=$(cd "$(dirname "$0")/.." && pwd)
 folder=$(mktemp -d)
@@ -154,7 +154,7 @@ RT
 
 PYTHONPATH=$top/bench PYTHONDONTWRITEBYTECODE=1 python3 - "$crate" "${COMMANDS:-100000}" "${RUNS:-100}" "${SEED:-1}" "${SECONDS_ALL:-3000}" <<'P'
 import random, subprocess, sys
-from model import Model, random_line, states_of, whole_replies
+from model import Model, random_line, states_left, states_of, whole_replies
 crate, commands, runs, seed, seconds = sys.argv[1], *map(int, sys.argv[2:])
 random.seed(seed)
 
@@ -175,8 +175,8 @@ for k, script in enumerate(scripts):
     replies, states = states_of(model, script)
     whole = whole_replies(replies, said)
     assert whole is not None, (k, said[-100:])
-    found = [n for n in (whole, whole + 1) if n < len(states) and there == (states[n].listing(), states[n].classes)]
+    found = [it for it in states_left(states, whole) if there == (it.listing(), it.classes)]
     assert found, (k, whole, script[whole : whole + 1])
-    model, done = states[found[0]], done + found[0]
-print(f"images: {runs} runs, each cut off, {done} commands done, {len(model.listing())} objects, {len(model.classes)} classes: as the model says")
+    model, done = found[0], done + whole
+print(f"images: {runs} runs, each cut off, {done} commands done, {len(model.listing())} items, {len(model.classes)} classes: as the model says")
 P

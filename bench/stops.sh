@@ -11,8 +11,9 @@
 # The file is on a file system of its own, 16 MB of ext4 in FOLDER (without one in memory, where there is /dev/shm). If that can't be mounted,
 # it is on a tmpfs, and if that can't be either, in FOLDER itself; then no run is cut off from its disk.
 # What runs of all kinds leave is opened by the next run, or recovered, by a recovery that may be stopped before. The file has to have
-# all that the printed replies say, and of what comes after them at most one command; each object has its whole value. At the first
-# difference the file, the one before the run, the script and what was printed are kept, and the status is 1.
+# all that the printed replies say, and of what comes after them at most one command, or after the last reply saves of the close; each
+# object has its whole value, and each tree its saved rows. At the first difference the file, the one before the run, the script and
+# what was printed are kept, and the status is 1.
 set -eu
 top=$(cd "$(dirname "$0")/.." && pwd)
 base=${4:-/dev/shm}
@@ -39,7 +40,7 @@ fi
 
 PYTHONPATH=$top/bench PYTHONDONTWRITEBYTECODE=1 python3 - "$program" "$folder" $kind "${1:-30}" "${2:-20}" "${3:-30}" "${COMMANDS:-60}" "${SEED:-1}" <<'P'
 import collections, fcntl, os, random, re, shutil, struct, subprocess, sys, tempfile, time
-from model import Model, random_line, states_of, whole_replies
+from model import Model, random_line, states_left, states_of, whole_replies
 
 program, folder, kind = sys.argv[1:4]
 killed, cut, failing, commands, seed = map(int, sys.argv[4:])
@@ -173,9 +174,9 @@ def models_after(models, lines, ended):
         whole = whole_replies(replies, text)
         if whole is None or ended == "done" and whole < len(lines):
             continue
-        first = whole + 1 if ended == "unsaid" else whole
-        for state in states[first : whole + 2]:
-            found.setdefault(tuple(state.values()), state)
+        left = [states[-1].closed()] if ended == "done" else states_left(states, whole, 1 if ended == "unsaid" else 0)
+        for state in left:
+            found.setdefault(state.whole(), state)
         done["commands printed"] += whole if model is models[0] else 0
     if not found:
         fail("what was printed isn't what the model says")
@@ -193,10 +194,12 @@ def look(models):
     """Returns the one model that the closed file agrees with, by all that can be printed of it."""
     listing = printed_by("ls", path)
     values = [line for line in printed_by("dump", path) if not line.startswith("class T")]
+    models = [it for it in models if (listing, values) == (it.listing(), it.values())]
+    scans = [(name, printed_by("scan", path, name)) for name in sorted(models[0].trees)] if models else []
     for model in models:
-        if (listing, values) == (model.listing(), model.values()):
+        if scans == model.scans():
             return model
-    fail(f"the file isn't what the model says: {len(listing)} keys")
+    fail(f"the file isn't what the model says: {len(listing)} keys, of {len(scans)} trees")
 
 
 def recover(models):

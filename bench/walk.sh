@@ -1,9 +1,10 @@
 #!/usr/bin/env bash
 # A random walk of commands over one file, by runs that are killed at random moments, against a model of its own.
-# Usage: [COMMANDS=100000] [RUNS=100] [SEED=1] bench/walk.sh [FOLDER] (builds the program first where it has to). RUNS scripts of put,
-# delete, get, ls and class, some of them refused by the rules, go over one file, without FOLDER in memory where there is /dev/shm.
+# Usage: [COMMANDS=100000] [RUNS=100] [SEED=1] bench/walk.sh [FOLDER] (builds the program first where it has to). RUNS scripts of
+# commands, some of them refused by the rules, go over one file, without FOLDER in memory where there is /dev/shm.
 # Every third run is let run; each other is killed (SIGKILL) after a random time. The replies that were printed have to be
-# those of the model, and `recover` and the classes of `dump` have to be what the model has after as many commands, or after one more.
+# those of the model, and `recover` and the classes of `dump` have to be what the model has after as many commands, or after one more,
+# or after the last one and some saves of the close.
 set -eu
 top=$(cd "$(dirname "$0")/.." && pwd)
 base=${1:-/dev/shm}
@@ -47,27 +48,32 @@ for k in range(runs):
             run.kill()
             run.wait()
             killed += 1
+            is_done = False
         else:
             assert run.returncode == 0, run.returncode
-            longest = max(longest, time.monotonic() - begun)
+            longest, is_done = max(longest, time.monotonic() - begun), True
     text = open(said).read()
     whole = whole_replies(replies, text)
     assert whole is not None, (k, text[-200:])
-    for line in lines[:whole]:
-        model.do(line)
     out = subprocess.run([program, "recover", path], capture_output=True, text=True)
     assert out.returncode == 0, (k, out.returncode, out.stderr)
     there = (out.stdout.splitlines(), declared())
-    if there != (model.listing(), model.classes):
-        assert whole < len(lines), (k, "the listing after all commands")
+    for line in lines[:whole]:
+        model.do(line)
+    left = [model.copy(), *(model.closing() if whole == len(lines) else [model])]
+    if whole < len(lines):
         model.do(lines[whole])
-        assert there == (model.listing(), model.classes), (k, whole)
-        whole += 1
+    left = [it.saved() for it in (left[-1:] if is_done else left)]
+    model = next((it for it in left if there == (it.listing(), it.classes)), None)
+    assert model, (k, whole, lines[whole : whole + 1])
     done += whole
-for name in random.sample(model.names(), min(20, len(model.objects))):
+for name in random.sample(sorted(model.objects), min(20, len(model.objects))):
     cycle = max(model.objects[name])
     out = subprocess.run([program, "dump", path, name], capture_output=True, text=True).stdout
     assert out == f"{name};{cycle} {model.objects[name][cycle][1]}\n", out
+for name, rows in model.scans():
+    out = subprocess.run([program, "scan", path, name], capture_output=True, text=True).stdout
+    assert out.splitlines() == rows, (name, len(rows))
 size = os.path.getsize(path)
-print(f"walk: {runs} runs, {killed} of them killed, {done} commands done, {len(model.listing())} objects, {size} bytes: as the model says")
+print(f"walk: {runs} runs, {killed} of them killed, {done} commands done, {len(model.listing())} items, {size} bytes: as the model says")
 P

@@ -7,8 +7,10 @@ pub mod Infos
 pub mod LineByLine
 pub mod Lines
 pub mod PiecesCauses
+pub mod SavedSums
 pub mod Scans
 pub mod SeenLaws
+pub mod Summaries
 pub mod Trees
 pub mod ValueTexts
 pub mod WholeLines

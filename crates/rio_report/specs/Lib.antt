@@ -9,5 +9,6 @@ pub mod PiecesCause
 pub mod RowForms
 pub mod RowTexts
 pub mod Scan
+pub mod Summary
 pub mod TreeTexts
 pub mod Versions

@@ -6,9 +6,11 @@
 //! the entries again to say the rows, as lists or as CSV. Beside the key list and the classes one record is held, or the tree's
 //! head, one basket of each branch and the values of one row.
 //!
+//! [`summarize_tree`] sums up a tree and says nothing.
+//!
 //! What they say is defined in `specs/`: `Described` (the classes that a file describes), `FirstFault` (the first rule that a file
 //! breaks of those that a verb tests), `Dump`, `Item` (a key by its name and cycle), and of a tree `RowTexts` (a row as it is
-//! printed), `RowForms` (rows in another version and as CSV, and why they can't be had) and `Scan`. Which branches aren't read, and
+//! printed), `RowForms` (rows in another version and as CSV, and why they can't be had), `Scan` and `Summary`. Which branches aren't read, and
 //! the rows of a tree, are defined in `rio_entry`, where the walk over them stands.
 #![tactic(auto)]
 
@@ -23,6 +25,7 @@ mod row_refusal;
 mod scan;
 mod scan_rows;
 mod scan_text;
+mod summary;
 mod tree_line;
 mod versions;
 
@@ -31,3 +34,4 @@ pub use item::Item;
 pub use ls::{key_listing, say_ls};
 pub use rio_close::ReportFault;
 pub use scan::say_scan;
+pub use summary::{TreeSummary, summarize_tree};

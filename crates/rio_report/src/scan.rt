@@ -33,8 +33,8 @@ use rio_tree::TreeHead;
 use rio_types::{Base, Classes};
 use std::alloc::Global;
 
-// The key of the tree of the name, of the greatest cycle, the first of several.
-fn tree_key<'a>(keys: &'a [KeyHead], name: &[u8]) -> Option<&'a KeyHead>
+/// The key of the tree of the name, of the greatest cycle, the first of several.
+pub(crate) fn tree_key<'a>(keys: &'a [KeyHead], name: &[u8]) -> Option<&'a KeyHead>
     ensures { option_copied result ≡ tree_key name.now keys.now }
 {
     let mut best: Option<&KeyHead> = None;

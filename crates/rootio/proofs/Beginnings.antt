@@ -20,7 +20,7 @@ use Rattle.rio_create.proofs.{NewFiles.{new_keys}, Uuids.{length-uuid}}
 use Rattle.rio_recover.specs.Cleaning.{cleaned}
 use Rattle.rio_recover.proofs.{CleanSteps.{garbage_is_cleaned}, Tables.{any_with, some_found}}
 use Rattle.rio_session.specs.Opening.{OpensMade, OpensWith}
-use Rattle.rootio.specs.{Beginnings.{BeginningsExist, HasBeginning}, Writing.{target_of}, declared.words.Work.{Work, TheVariants.{Run, Recover}}}
+use Rattle.rootio.specs.{Beginnings.{BeginningsExist, HasBeginning}, Generated.{generated_line}, Writing.{target_of}, declared.words.Work.{Work, TheVariants.{Run, Recover, Import, Generate}}}
 
 -- ---- the keys of records, in order
 
@@ -186,4 +186,22 @@ beginnings_exist work file text input m short reads = by work (starts (target_of
       state_is = refl;
       begins = start.begins;
       listing = (start.heads, start.keys, refl);
+    }
+    by (Import target words) start = record {
+      b = record { file = file; text = text; input = input; links = start.links; state = m; listing = [] };
+      file_is = refl;
+      text_is = refl;
+      input_is = refl;
+      state_is = refl;
+      begins = start.begins;
+      listing = refl;
+    }
+    by (Generate target entries) start = record {
+      b = record { file = file; text = text; input = input; links = start.links; state = m; listing = generated_line target entries start.links };
+      file_is = refl;
+      text_is = refl;
+      input_is = refl;
+      state_is = refl;
+      begins = start.begins;
+      listing = refl;
     }

@@ -5,11 +5,12 @@ use Rattle.rio_host.specs.{Host.{View}, Source.{Input}}
 use Rattle.rio_dir.specs.Unborn.{header_fault}
 use Rattle.rio_report.specs.FirstFault.{first_fault}
 use Rattle.rio_state.specs.Reasons.{ReasonAt, reason_at}
-use Rattle.rio_state.proofs.{MeetsNoReason.{meets_no_reason}, OneReason.{reason_one}}
+use Rattle.rio_state.proofs.MeetsNoReason.{meets_no_reason}
 use Rattle.rootio.specs.{Causes.{IsCause}, Complete.{CanBeDone, IsComplete}, Input.{TellsTooLong}, Reading.{TellsFirstFault, reads_input, rules_of}}
 use Rattle.rootio.specs.Writing.{IsReasonFor, TellsFirstReason}
 use Rattle.rootio.specs.declared.status.Status.{Status, TheVariants.{Done, Usage, BadFile, DiskFault, InputFault, NoMemory, InputTooLong, ReadOnly, SayFault}}
-use Rattle.rootio.specs.{declared.words.Form.{Form, TheVariants.{Reads, Writes}}, declared.words.Work.TheVariants.{Run, Recover}}
+use Rattle.rootio.specs.{declared.words.Form.{Form, TheVariants.{Reads, Writes}}, declared.words.Work.TheVariants.{Run, Recover, Import, Generate}}
+use Rattle.rootio.proofs.ReasonsFor.{reason_for_one}
 
 -- words that have a form aren't refused
 pub formed : (form : Form) (old new : View) (before after : Input) (status : Status) → IsCause (Some form) old new before after status → status ≡ Usage → ⊥
@@ -28,13 +29,15 @@ module _ (old new : View) (before after : Input) where
   not_read_only : (form : Form) → CanBeDone form old before → (r : ReasonAt) → ((file : List ℕ) → old.holds ≡ Some file → IsReasonFor form file r) → ⊥
   not_read_only (Reads list) can r tells = tells can.file can.holds
   not_read_only (Writes work) can r tells =
-      let none : Some r ≡ None = reason_one can.file (Some r) None (tells can.file can.holds).1 can.free in
+      let none : Some r ≡ None = reason_for_one work can.file (Some r) None (tells can.file can.holds).1 can.free in
       cc
 
   not_too_long : (form : Form) → CanBeDone form old before → reads_input (Some form) ≡ true → TellsTooLong before InputTooLong → ⊥
   not_too_long (Reads list) can reads tells = cc
   not_too_long (Writes (Run target)) can reads tells = omega (arith, tells refl can.input.0 can.input.1, can.input.2)
   not_too_long (Writes (Recover target)) can reads tells = cc
+  not_too_long (Writes (Import target words)) can reads tells = omega (arith, tells refl can.input.0 can.input.1, can.input.2)
+  not_too_long (Writes (Generate target entries)) can reads tells = cc
 
   pub completes : (form : Form) (status : Status) → TellsFirstFault (rules_of form) old status → TellsFirstReason form old status
       → TellsTooLong before status → IsCause (Some form) old new before after status → IsComplete form old new before after status

@@ -1,5 +1,5 @@
 -- A run's commands, one after the other.
-use Rattle.std.proofs.Common.{◌≡◌, inl, inr, ℕ, suc, ◌+◌, ◌<◌, ◌≤◌, true, false, List, [], ◌∷◌, ◌++◌, length, take, drop, get_or, Option, None, Some, Result, Ok, Err, subst, sym, refl, ap, ◌∙◌, arith, append_assoc}
+use Rattle.std.proofs.Common.{◌≡◌, inl, inr, ℕ, suc, ◌+◌, ◌<◌, ◌≤◌, false, List, [], ◌∷◌, ◌++◌, length, take, drop, get_or, IsErrOf, Option, Some, Result, Ok, Err, subst, sym, refl, ap, ◌∙◌, arith, append_assoc}
 use Rattle.std.proofs.{lemmas.List.{append-nil, drop-drop, drop_all, get_or_default, take_all}, lemmas.Option.{same_Some, slice_get-get_or}, Math.Seq.{drop-cons}}
 use Rattle.std.specs.Result.{OnOk}
 use Rattle.rio_host.specs.{Host.{Any, Becomes, Elapses, IsLawful, View}, OnlyReads.{Grown}}
@@ -8,13 +8,13 @@ use Rattle.rio_chain.specs.{Chains.{HasChain}, Segments.{IsChain, Link}, Stops.{
 use Rattle.rio_chain.proofs.OneChain.{chain_one}
 use Rattle.rio_machine.specs.{State.{State}, declared.command.Command.{Command, TheVariants.{Ls}}, declared.command.Outcome.{Outcome}}
 use Rattle.rio_step.proofs.RunLaws.{runs_begin_alike}
-use Rattle.rio_step.specs.{ReplyText.{text_of}, Runs.{first_mark, said_of, saved_of, state_after}, Step.{Stepped, outcome_of, step}}
-use Rattle.rio_step.specs.Costs.{HasFileRoom, cost_of}
+use Rattle.rio_step.specs.{Runs.{first_mark, said_of, saved_of, state_after}, Step.{Stepped, outcome_of, step}}
+use Rattle.rio_step.specs.Costs.{cost_of}
 use Rattle.rio_state.specs.Left.{IsLeftAs}
 use Rattle.rio_session.specs.{Behind.{SaysPart}, Causes.{IsCloseCause, IsSaid, IsSessionCause, NoCountRose, SaysNothing}}
 use Rattle.rio_effect.specs.FileRuns.{FileRecords, FileRun, FileStep, file_run, file_step, marked_before}
 use Rattle.rio_effect.proofs.FileRunLaws.{runs_have_parts}
-use Rattle.rio_session.specs.{FileSteps.{IsStepTold, RecordsBecome}, Session.{file_records}}
+use Rattle.rio_session.specs.{FileSteps.{IsStepTold, RecordsBecome}, Replying.{printed_of, reply_text}, Session.{file_records}, declared.replies.Replies.{Replies}}
 use Rattle.rio_session.proofs.Follows.{follows_costs, follows_datime, follows_name, follows_opened}
 use Rattle.rio_session.specs.Session.{IsOpenAs, IsReady, LacksRoomIfFull, LeavesOpenAs, SessionState, StandsFor, Steps, Went, next_of, with_cost}
 use Rattle.rio_session.specs.declared.fault.SessionFault.{SessionFault, TheVariants.{HostFault, SayFault, NoMemory}}
@@ -22,7 +22,7 @@ use Rattle.rio_session.proofs.{Opened.{keeps_own}, Spoken.{grows_none}}
 use Rattle.rootio.specs.{Headline.{IsStopOf, SaidFindRoom, ScriptRun, replies}, Script.{HasDone, session_file_run, session_run}, Writing.{LeavesOpen, StandsUnsaid}}
 use Rattle.rootio.proofs.{Unclosed.{steps_open}, Untouched.{any_join, becomes_same, elapses_none}}
 use Rattle.rootio.proofs.Room.{CostsSo, all_find_room, costs_more, no_costs, room_at_fault}
-use Rattle.rootio.proofs.RunStops.{IsNext, behind, behind_next, prefix_at, replies_next, step_at, stop_between, stop_within}
+use Rattle.rootio.proofs.RunStops.{IsNext, behind, behind_next, prefix_at, printed_none, replies_next, step_at, stop_between, stop_within}
 
 -- ---- marks
 
@@ -117,7 +117,7 @@ module _ (r : ScriptRun) (before : List ℕ) (k : ℕ) (c : Command) (next : IsN
   done_is = step_is s.datime (file_records s links) last r k c left next ∙ told
 
   -- what a stop leaves within the command
-  pub stops_within : (file image said : List ℕ) → Steps (behind r k) done (before ++ replies r k) image said → IsStopOf r file before image said
+  pub stops_within : (file image said : List ℕ) → Steps r.replies (behind r k) done (before ++ replies r k) image said → IsStopOf r file before image said
   stops_within file image said (inl was) =
       let within : k ≤ length r.commands = omega (arith, next.within) in
       stop_between r file before image said k within (prefix_at r file image k within was.0.left) was.1
@@ -126,20 +126,20 @@ module _ (r : ScriptRun) (before : List ℕ) (k : ℕ) (c : Command) (next : IsN
       let state : done.state ≡ behind r (k + 1) = ap (λ (t : Stepped). t.state) (sym done_is) ∙ sym (behind_next r k c next) in
       let prefix = prefix_at r file image (k + 1) within (subst (λ m. IsLeftAs (saved_of m) image) state now.0.left) in
       stop_within r k c next file before image said now.1.0 prefix
-      (now.1.1 ∙ ap (λ (t : Stepped). (before ++ replies r k) ++ take now.1.0 (text_of t.reply)) (sym done_is))
+      (now.1.1 ∙ ap (λ (t : Stepped). (before ++ replies r k) ++ take now.1.0 (reply_text r.replies t.reply)) (sym done_is))
 
   -- one command more
   pub one_more : (start v new : View) (s1 : SessionState) (outcome : Outcome) → ((file : List ℕ) → Elapses start v (IsStopOf r file before))
       → (first : SessionState) → s.name ≡ first.name → s.datime ≡ first.datime → CostsSo first s r k → (at : StandsFor v s (behind r k) (before ++ replies r k)) → at.state.links ≡ links
-      → (front : List ℕ) → KeepsFront front at.file → RecordsBecome v new s s1 (behind r k) c → Went v new s s1 (behind r k) c (before ++ replies r k) outcome → Sofar start new last front first s1 r before (k + 1)
+      → (front : List ℕ) → KeepsFront front at.file → RecordsBecome v new s s1 (behind r k) c → Went r.replies v new s s1 (behind r k) c (before ++ replies r k) outcome → Sofar start new last front first s1 r before (k + 1)
   one_more start v new s1 outcome time first named soon costs at links_are front kept become went =
       let state : done.state ≡ behind r (k + 1) = ap (λ (t : Stepped). t.state) (sym done_is) ∙ sym (behind_next r k c next) in
-      let text : (before ++ replies r k) ++ text_of done.reply ≡ before ++ replies r (k + 1) =
-      append_assoc before (replies r k) (text_of done.reply)
-      ∙ ap (λ (t : Stepped). before ++ (replies r k ++ text_of t.reply)) (sym done_is)
+      let text : (before ++ replies r k) ++ reply_text r.replies done.reply ≡ before ++ replies r (k + 1) =
+      append_assoc before (replies r k) (reply_text r.replies done.reply)
+      ∙ ap (λ (t : Stepped). before ++ (replies r k ++ reply_text r.replies t.reply)) (sym done_is)
       ∙ ap (λ l. before ++ l) (sym (replies_next r k c next)) in
       let later : StandsFor new s1 (behind r (k + 1)) (before ++ replies r (k + 1)) =
-      subst (λ l. StandsFor new s1 (behind r (k + 1)) l) text (subst (λ m. StandsFor new s1 m ((before ++ replies r k) ++ text_of done.reply)) state went.stands) in
+      subst (λ l. StandsFor new s1 (behind r (k + 1)) l) text (subst (λ m. StandsFor new s1 m ((before ++ replies r k) ++ reply_text r.replies done.reply)) state went.stands) in
       let step_on : List Link → FileStep = λ x. file_step s.datime (file_records s x) (behind r k) c in
       let same : (step_on links).records ≡ file_records s1 later.state.links =
       ap (λ (x : List Link). (step_on x).records) (sym links_are)
@@ -151,13 +151,13 @@ module _ (r : ScriptRun) (before : List ℕ) (k : ℕ) (c : Command) (next : IsN
         marks = subst (λ (x : ℕ). MarksLeft x (file_records s1 later.state.links) last r (k + 1)) (sym (follows_datime s s1 (behind r k) c went.follows))
             (marks_next s.datime (file_records s links) last r k c left next (file_records s1 later.state.links) same);
         kept = front_after v new s s1 (behind r k) (behind r (k + 1)) c (before ++ replies r k) (before ++ replies r (k + 1)) front at later become kept;
-        time = λ file. elapses_join (Steps (behind r k) done (before ++ replies r k)) (time file) went.time (λ i t steps. stops_within file i t steps);
+        time = λ file. elapses_join (Steps r.replies (behind r k) done (before ++ replies r k)) (time file) went.time (λ i t steps. stops_within file i t steps);
         costs = costs_more first s s1 r k c next costs outcome (follows_opened s s1 (behind r k) c went.follows) (follows_costs s s1 (behind r k) c went.follows)
             (went.outcome_is ∙ ap (λ (t : Stepped). outcome_of t.reply) (sym done_is)) went.full;
       }
 
   -- what the command did, where its reply could not be said
-  pub stands_unsaid : (new : View) → LeavesOpenAs new done.state → SaysPart new (before ++ replies r k) (text_of done.reply) → StandsUnsaid r before new
+  pub stands_unsaid : (new : View) → LeavesOpenAs new done.state → SaysPart new (before ++ replies r k) (reply_text r.replies done.reply) → StandsUnsaid r before new
   stands_unsaid new unsaid part =
       let within : k + 1 ≤ length r.commands = omega (arith, next.within) in
       let state : done.state ≡ behind r (k + 1) = ap (λ (t : Stepped). t.state) (sym done_is) ∙ sym (behind_next r k c next) in
@@ -165,7 +165,7 @@ module _ (r : ScriptRun) (before : List ℕ) (k : ℕ) (c : Command) (next : IsN
         j = k;
         command = c;
         command_is = slice_get-get_or r.commands k Ls next.within ∙ ap Some next.is;
-        text = subst (λ (t : Stepped). SaysPart new (before ++ replies r k) (text_of t.reply)) (sym done_is) part;
+        text = subst (λ (t : Stepped). SaysPart new (before ++ replies r k) (reply_text r.replies t.reply)) (sym done_is) part;
         state = behind r (k + 1);
         state_is = runs_begin_alike r.start r.commands r.marks (k + 1) within;
         left = λ image said leaves.
@@ -180,22 +180,23 @@ abbrev pub last_of : SessionState → List Link → State → List Command → F
 last_of first links m commands = (session_file_run first links m commands).records
 
 -- The first k commands are done, and nothing failed.
-pub record Doing (start v : View) (first s : SessionState) (commands : List Command) (k : ℕ) : Type 0 where
+pub record Doing (printing : Replies) (start v : View) (first s : SessionState) (commands : List Command) (k : ℕ) : Type 0 where
   pub ready : IsReady v s
   pub fresh : s.failed ≡ false
   pub told : Becomes Any start.holds v.holds
   pub said : Becomes Grown start.said v.said
   pub none : NoCountRose start v
-  pub sofar : (m : State) (text : List ℕ) (stands : StandsFor start first m text) → Sofar start v (last_of first stands.state.links m commands) stands.file first s (session_run first stands.state.links m commands) text k
+  pub sofar : (m : State) (text : List ℕ) (stands : StandsFor start first m text) → Sofar start v (last_of first stands.state.links m commands) stands.file first s (session_run printing first stands.state.links m commands) text k
 
-start_marks : (first : SessionState) (links : List Link) (m : State) (commands : List Command) → MarksLeft first.datime (file_records first links) (last_of first links m commands) (session_run first links m commands) 0
+start_marks : (printing : Replies) (first : SessionState) (links : List Link) (m : State) (commands : List Command) → MarksLeft first.datime (file_records first links) (last_of first links m commands) (session_run printing first links m commands) 0
 unfolding state_after
-start_marks first links m commands = record { are = refl; ends = refl }
+start_marks printing first links m commands = record { are = refl; ends = refl }
 
-start_stands : (v : View) (first : SessionState) (links : List Link) (m : State) (commands : List Command) (text : List ℕ) → StandsFor v first m text
-    → let r = session_run first links m commands in StandsFor v first (behind r 0) (text ++ replies r 0)
+start_stands : (printing : Replies) (v : View) (first : SessionState) (links : List Link) (m : State) (commands : List Command) (text : List ℕ) → StandsFor v first m text
+    → let r = session_run printing first links m commands in StandsFor v first (behind r 0) (text ++ replies r 0)
 unfolding state_after said_of
-start_stands v first links m commands text stands = subst (λ l. StandsFor v first m l) (sym (append-nil text)) stands
+start_stands printing v first links m commands text stands =
+    subst (λ l. StandsFor v first m l) (sym (append-nil text) ∙ ap (λ (l : List ℕ). text ++ l) (sym (printed_none printing))) stands
 
 -- a host tells one file, which has one list of records
 same_links : (v : View) (s : SessionState) (m m1 : State) (text text1 : List ℕ) (a : StandsFor v s m text) (b : StandsFor v s m1 text1) → a.state.links ≡ b.state.links
@@ -203,21 +204,21 @@ same_links v s m m1 text text1 a b =
     let file : a.file ≡ b.file = same_Some a.file b.file (sym a.holds ∙ b.holds) in
     chain_one b.file a.state.links b.state.links (subst (IsChain a.state.links) file a.state.chain.chain) b.state.chain.chain
 
-pub nothing_yet : (v : View) (first : SessionState) (commands : List Command) → IsReady v first → first.failed ≡ false → Doing v v first first commands 0
-nothing_yet v first commands ready fresh = record {
+pub nothing_yet : (printing : Replies) (v : View) (first : SessionState) (commands : List Command) → IsReady v first → first.failed ≡ false → Doing printing v v first first commands 0
+nothing_yet printing v first commands ready fresh = record {
   ready = ready;
   fresh = fresh;
   told = becomes_same v.holds;
   said = grows_none v.said v.said refl;
   none = (refl, refl);
   sofar = λ m text stands.
-      let r = session_run first stands.state.links m commands in
-      let here = start_stands v first stands.state.links m commands text stands in
+      let r = session_run printing first stands.state.links m commands in
+      let here = start_stands printing v first stands.state.links m commands text stands in
       record {
         stands = here;
         name = refl;
         datime = refl;
-        marks = subst (λ (links : List Link). MarksLeft first.datime (file_records first links) (last_of first stands.state.links m commands) r 0) (same_links v first m (behind r 0) text (text ++ replies r 0) stands here) (start_marks first stands.state.links m commands);
+        marks = subst (λ (links : List Link). MarksLeft first.datime (file_records first links) (last_of first stands.state.links m commands) r 0) (same_links v first m (behind r 0) text (text ++ replies r 0) stands here) (start_marks printing first stands.state.links m commands);
         kept = subst (KeepsFront stands.file) (same_Some stands.file here.file (sym stands.holds ∙ here.holds)) (keeps_own stands.file);
         time = λ file. elapses_none v (IsStopOf r file text);
         costs = no_costs first r;
@@ -227,12 +228,12 @@ nothing_yet v first commands ready fresh = record {
 next_at : (r : ScriptRun) (k : ℕ) (c : Command) → k < length r.commands → c ≡ get_or r.commands k c → IsNext r k c
 next_at r k c within is = record { within = within; is = get_or_default r.commands k Ls c within ∙ sym is }
 
-module _ (start v new : View) (first s s1 : SessionState) (commands : List Command) (k : ℕ) (c : Command) (within : k < length commands) (is : c ≡ get_or commands k c)
-    (doing : Doing start v first s commands k) where
-  pub does_next : (outcome : Outcome) → ((m : State) (text : List ℕ) → StandsFor v s m text → Went v new s s1 m c text outcome)
+module _ (printing : Replies) (start v new : View) (first s s1 : SessionState) (commands : List Command) (k : ℕ) (c : Command) (within : k < length commands) (is : c ≡ get_or commands k c)
+    (doing : Doing printing start v first s commands k) where
+  pub does_next : (outcome : Outcome) → ((m : State) (text : List ℕ) → StandsFor v s m text → Went printing v new s s1 m c text outcome)
       → ((m : State) (text : List ℕ) → StandsFor v s m text → RecordsBecome v new s s1 m c)
       → ((m : State) (text : List ℕ) (stands : StandsFor v s m text) → IsStepTold s m c stands.state.links)
-      → IsReady new s1 → s1.failed ≡ false → Becomes Any v.holds new.holds → Becomes Grown v.said new.said → NoCountRose v new → Doing start new first s1 commands (k + 1)
+      → IsReady new s1 → s1.failed ≡ false → Becomes Any v.holds new.holds → Becomes Grown v.said new.said → NoCountRose v new → Doing printing start new first s1 commands (k + 1)
   does_next outcome went become steps ready fresh told said none = record {
     ready = ready;
     fresh = fresh;
@@ -240,65 +241,65 @@ module _ (start v new : View) (first s s1 : SessionState) (commands : List Comma
     said = grown_join start.said v.said new.said doing.said said;
     none = (none.0 ∙ doing.none.0, none.1 ∙ doing.none.1);
     sofar = λ m text stands.
-        let r = session_run first stands.state.links m commands in
+        let r = session_run printing first stands.state.links m commands in
         let so = doing.sofar m text stands in
         one_more r text k c (next_at r k c within is) s so.stands.state.links (last_of first stands.state.links m commands) so.marks (steps (behind r k) (text ++ replies r k) so.stands) start v new s1 outcome so.time first so.name so.datime so.costs
         so.stands refl stands.file so.kept (become (behind r k) (text ++ replies r k) so.stands) (went (behind r k) (text ++ replies r k) so.stands);
   }
 
-  pub stops_there : ((m : State) (text : List ℕ) → StandsFor v s m text → Elapses v new (Steps m (next_of s m c) text))
+  pub stops_there : ((m : State) (text : List ℕ) → StandsFor v s m text → Elapses v new (Steps printing m (next_of s m c) text))
       → ((m : State) (text : List ℕ) (stands : StandsFor v s m text) → IsStepTold s m c stands.state.links)
-      → (file text : List ℕ) (m : State) (stands : StandsFor start first m text) → Elapses start new (IsStopOf (session_run first stands.state.links m commands) file text)
+      → (file text : List ℕ) (m : State) (stands : StandsFor start first m text) → Elapses start new (IsStopOf (session_run printing first stands.state.links m commands) file text)
   stops_there stopped steps file text m stands =
-      let r = session_run first stands.state.links m commands in
+      let r = session_run printing first stands.state.links m commands in
       let so = doing.sofar m text stands in
-      elapses_join (Steps (behind r k) (next_of s (behind r k) c) (text ++ replies r k)) (so.time file)
+      elapses_join (Steps printing (behind r k) (next_of s (behind r k) c) (text ++ replies r k)) (so.time file)
       (stopped (behind r k) (text ++ replies r k) so.stands)
       (λ image said at. stops_within r text k c (next_at r k c within is) s so.stands.state.links (last_of first stands.state.links m commands) so.marks (steps (behind r k) (text ++ replies r k) so.stands) file image said at)
 
   -- and nothing of what was said is want of room
   pub room_there : (e : SessionFault) → (SaysNothing {X = Outcome} (Err e) → new.said ≡ v.said)
       → (IsSaid {X = Outcome} (Err e) → (m : State) (text : List ℕ) → StandsFor v s m text → LacksRoomIfFull (with_cost (cost_of m c) s) (outcome_of (next_of s m c).reply))
-      → ((m : State) (text : List ℕ) → StandsFor v s m text → SaysPart new text (text_of (next_of s m c).reply))
+      → ((m : State) (text : List ℕ) → StandsFor v s m text → SaysPart new text (reply_text printing (next_of s m c).reply))
       → ((m : State) (text : List ℕ) (stands : StandsFor v s m text) → IsStepTold s m c stands.state.links)
-      → (m : State) (text : List ℕ) (stands : StandsFor start first m text) → first.costs ≡ 0 → HasFileRoom first.opened m commands (session_run first stands.state.links m commands).marks
-      → SaidFindRoom (session_run first stands.state.links m commands) text new
-  room_there e silent lacks part steps m text stands none room =
-      let r = session_run first stands.state.links m commands in
+      → (m : State) (text : List ℕ) (stands : StandsFor start first m text) → first.costs ≡ 0
+      → SaidFindRoom first.opened (session_run printing first stands.state.links m commands) text new
+  room_there e silent lacks part steps m text stands none =
+      let r = session_run printing first stands.state.links m commands in
       let so = doing.sofar m text stands in
       let next = next_at r k c within is in
       let same : step_at r k c ≡ next_of s (behind r k) c = done_is r text k c next s so.stands.state.links (last_of first stands.state.links m commands) so.marks (steps (behind r k) (text ++ replies r k) so.stands) in
-      room_at_fault first s r text k c next so.costs none room v new e so.stands.said silent
+      room_at_fault first s r text k c next so.costs none v new e so.stands.said silent
       (λ spoken. subst (λ (t : Stepped). LacksRoomIfFull (with_cost (cost_of (behind r k) c) s) (outcome_of t.reply)) (sym same) (lacks spoken (behind r k) (text ++ replies r k) so.stands))
-      (subst (λ (t : Stepped). SaysPart new (text ++ replies r k) (text_of t.reply)) (sym same) (part (behind r k) (text ++ replies r k) so.stands))
+      (subst (λ (t : Stepped). SaysPart new (text ++ replies r k) (reply_text printing t.reply)) (sym same) (part (behind r k) (text ++ replies r k) so.stands))
 
   -- and what the command did stands, where its reply could not be said
   pub unsaid_there : (e : SessionFault)
       → (◌≡◌ {A = Result Outcome SessionFault} (Err e) (Err SayFault) → (m : State) (text : List ℕ) → StandsFor v s m text → LeavesOpenAs new (next_of s m c).state)
-      → ((m : State) (text : List ℕ) → StandsFor v s m text → SaysPart new text (text_of (next_of s m c).reply))
+      → ((m : State) (text : List ℕ) → StandsFor v s m text → SaysPart new text (reply_text printing (next_of s m c).reply))
       → ((m : State) (text : List ℕ) (stands : StandsFor v s m text) → IsStepTold s m c stands.state.links)
       → ◌≡◌ {A = Result (Unit {0}) SessionFault} (Err e) (Err SayFault)
-      → (m : State) (text : List ℕ) (stands : StandsFor start first m text) → StandsUnsaid (session_run first stands.state.links m commands) text new
+      → (m : State) (text : List ℕ) (stands : StandsFor start first m text) → StandsUnsaid (session_run printing first stands.state.links m commands) text new
   unsaid_there HostFault unsaid part steps e m text stands = absurd cc
   unsaid_there SayFault unsaid part steps e m text stands =
-      let r = session_run first stands.state.links m commands in
+      let r = session_run printing first stands.state.links m commands in
       let so = doing.sofar m text stands in
       stands_unsaid r text k c (next_at r k c within is) s so.stands.state.links (last_of first stands.state.links m commands) so.marks (steps (behind r k) (text ++ replies r k) so.stands) new (unsaid refl (behind r k) (text ++ replies r k) so.stands) (part (behind r k) (text ++ replies r k) so.stands)
   unsaid_there NoMemory unsaid part steps e m text stands = absurd cc
 
 -- a command that fails leaves the file marked as open
-pub leaves_open : (start v new : View) (first s : SessionState) (commands : List Command) (k : ℕ) (c : Command) → Doing start v first s commands k → IsLawful new
-    → ((m : State) (text : List ℕ) → StandsFor v s m text → Elapses v new (Steps m (next_of s m c) text))
+pub leaves_open : (printing : Replies) (start v new : View) (first s : SessionState) (commands : List Command) (k : ℕ) (c : Command) → Doing printing start v first s commands k → IsLawful new
+    → ((m : State) (text : List ℕ) → StandsFor v s m text → Elapses v new (Steps printing m (next_of s m c) text))
     → (m : State) (text : List ℕ) → StandsFor start first m text → LeavesOpen new
-leaves_open start v new first s commands k c doing law stopped m text stands =
-    let r = session_run first stands.state.links m commands in
+leaves_open printing start v new first s commands k c doing law stopped m text stands =
+    let r = session_run printing first stands.state.links m commands in
     let so = doing.sofar m text stands in
-    steps_open v new s (behind r k) (text ++ replies r k) doing.ready so.stands law (next_of s (behind r k) c) (stopped (behind r k) (text ++ replies r k) so.stands)
+    steps_open v new s (behind r k) (text ++ replies r k) doing.ready so.stands law printing (next_of s (behind r k) c) (stopped (behind r k) (text ++ replies r k) so.stands)
 
-pub all_done : (start v : View) (first s : SessionState) (commands : List Command) (k : ℕ) → length commands ≤ k → Doing start v first s commands k
-    → (m : State) (text : List ℕ) (stands : StandsFor start first m text) → HasDone (session_run first stands.state.links m commands) stands.state.links stands.file first s text v
-all_done start v first s commands k all doing m text stands =
-    let r = session_run first stands.state.links m commands in
+pub all_done : (printing : Replies) (start v : View) (first s : SessionState) (commands : List Command) (k : ℕ) → length commands ≤ k → Doing printing start v first s commands k
+    → (m : State) (text : List ℕ) (stands : StandsFor start first m text) → HasDone (session_run printing first stands.state.links m commands) stands.state.links stands.file first s text v
+all_done printing start v first s commands k all doing m text stands =
+    let r = session_run printing first stands.state.links m commands in
     let so = doing.sofar m text stands in
     let none : drop k commands ≡ [] = drop_all k commands all in
     let same : file_records s so.stands.state.links ≡ last_of first stands.state.links m commands =
@@ -311,10 +312,10 @@ all_done start v first s commands k all doing m text stands =
         front = so.kept;
         records_are = sym same ∙ ap (λ (x : FileRecords). file_records s x.links) same;
       };
-      stands = subst (λ (cs : List Command). StandsFor v s (state_after m cs r.marks) (text ++ said_of m cs r.marks)) (take_all k commands all) so.stands;
+      stands = subst (λ (cs : List Command). StandsFor v s (state_after m cs r.marks) (text ++ printed_of printing (said_of m cs r.marks))) (take_all k commands all) so.stands;
       name = so.name;
       datime = so.datime;
-      room = λ none room. all_find_room first s r k all so.costs none room;
+      room = λ none. all_find_room first s r k all so.costs none;
     }
 
 pub cause_behind : (X Y : Type 0) (start v new : View) (e : SessionFault) → NoCountRose start v → IsSessionCause {X = X} v new (Err e) → IsSessionCause {X = Y} start new (Err e)
@@ -327,6 +328,18 @@ cause_of_close start v new (Ok x) none cause = (cause.0 ∙ none.0, cause.1 ∙ 
 cause_of_close start v new (Err HostFault) none cause = (rw (← none.0) cause.0, cause.1 ∙ none.1)
 cause_of_close start v new (Err SayFault) none cause = absurd cause
 cause_of_close start v new (Err NoMemory) none cause = (cause.0 ∙ none.0, cause.1 ∙ none.1)
+
+pub close_never_says : (v new : View) (r : Result (Unit {0}) SessionFault) → IsCloseCause v new r → IsErrOf r SayFault → ⊥
+close_never_says v new (Ok x) cause is = cc
+close_never_says v new (Err HostFault) cause is = cc
+close_never_says v new (Err SayFault) cause is = cause
+close_never_says v new (Err NoMemory) cause is = cc
+
+-- a fault that a command doesn't have, the run doesn't
+pub fault_again : (e : SessionFault) → (IsErrOf {T = Outcome} (Err e) SayFault → ⊥) → IsErrOf {T = Unit {0}} (Err e) SayFault → ⊥
+fault_again HostFault none is = cc
+fault_again SayFault none is = none refl
+fault_again NoMemory none is = cc
 
 -- what follows from four clauses where a call succeeds
 pub on_ok_all : {X E P Q R S T : Type 0} (r : Result X E) → (P → Q → R → S → T) → OnOk r P → OnOk r Q → OnOk r R → OnOk r S → OnOk r T

@@ -11,8 +11,7 @@ use Rattle.rio_chain.proofs.OneChain.{chain_one}
 use Rattle.rio_close.specs.EndWord.{SaysEnd}
 use Rattle.rio_machine.specs.State.{State}
 use Rattle.rio_report.specs.FirstFault.{HeaderAlone}
-use Rattle.rio_step.specs.Costs.{HasFileRoom}
-use Rattle.rio_state.specs.{Closing.{name_in}, KeyedRecords.{keyed_records}, Left.{open_end}, Reads.{ReadsAsState}, Reasons.{IsFirstReason, reason_at}}
+use Rattle.rio_state.specs.{Closing.{name_in}, KeyedRecords.{keyed_records}, Left.{open_end}, Reads.{ReadsAsState}, Reasons.{IsFirstReason, ReasonAt, reason_at}}
 use Rattle.rio_state.proofs.OneReason.{reason_one}
 use Rattle.rio_create.specs.NewFile.{first_links, new_file}
 use Rattle.rio_recover.specs.Cleaning.{cleaned}
@@ -22,12 +21,12 @@ use Rattle.rio_session.specs.Session.{SessionState, StandsFor}
 use Rattle.rio_session.specs.declared.fault.OpenFault.{OpenFault, TheVariants.{BadFile as FileBad, ReadOnly as FileReadOnly, NoMemory as NotRoomy, HostFault as NotOpened}}
 use Rattle.rio_session.specs.declared.fault.SessionFault.{SessionFault, TheVariants.{HostFault, SayFault as NotSaid, NoMemory as OutOfMemory}}
 use Rattle.rio_session.proofs.Spoken.{front_none, grows_none}
-use Rattle.rootio.specs.{Headline.{IsRunDone, IsStopOf, SaidFindRoom, ScriptRun, all_texts}, Reading.{RefusesBroken, TellsFirstFault}}
-use Rattle.rootio.specs.Script.{HasClosed, IsFileCause, RunsWork, StaysOpenBy, session_closed_records, status_of_open, status_of_session}
-use Rattle.rootio.specs.Writing.{Beginning, BeginsRun, EndsUnclosed, EndsUnsaid, IsOpenHeader, RefusesFile, RefusesReadOnly, TellsFirstReason, records_of, run_of_work, target_of}
+use Rattle.rootio.specs.{Headline.{AllFindRoom, IsRunDone, IsStopOf, SaidFindRoom, ScriptRun, all_texts}, Reading.{RefusesBroken, TellsFirstFault}}
+use Rattle.rootio.specs.Script.{HasClosed, IsFileCause, RunsWork, session_closed_records, status_of_open, status_of_session}
+use Rattle.rootio.specs.Writing.{Beginning, BeginsRun, EndsUnclosed, IsFirstReasonFor, IsOpenHeader, RefusesFile, RefusesReadOnly, TellsFirstReason, records_of, run_of_work, target_of}
 use Rattle.rootio.specs.{declared.status.Status.TheVariants.{Done, BadFile, NoMemory, ReadOnly}, declared.words.Form.TheVariants.{Writes}}
 use Rattle.rootio.specs.declared.words.Work.{Work}
-use Rattle.rootio.proofs.{Room.{silent_room}, SaidFronts.{said_front}, Scripts.{OpensAs, stop_opening}, Unclosed.{ends_unclosed}}
+use Rattle.rootio.proofs.{Room.{silent_room}, SaidFronts.{said_front}, Scripts.{OpensAs, stop_opening}, ReasonsFor.{Takes, reason_given, reason_taken}}
 use Rattle.rootio.proofs.Untouched.{any_join, becomes_same, elapses_none}
 
 -- ---- nothing was done
@@ -39,7 +38,7 @@ pub nothing_done : (work : Work) (input : List ℕ) (v : View) → RunsWork work
 nothing_done work input v = record {
   stops = λ b begins is. elapses_none v (IsStopOf (run_of_work work b) b.file b.text);
   said = λ b begins is. front_none v v b.text (all_texts (run_of_work work b)) begins.said refl;
-  room = λ b begins is room. silent_room (run_of_work work b) b.text v begins.said;
+  room = λ b begins is. silent_room (opening_length b.file) (run_of_work work b) b.text v begins.said;
   done = λ b begins is ended. absurd cc;
   written = λ b begins is ended. absurd cc;
   unclosed = λ b begins is. inl (reads_none v);
@@ -48,7 +47,7 @@ nothing_done work input v = record {
   broken = λ fault file here e. tt;
   reasons = λ place reason is. absurd cc;
   read_only = λ against file here e. tt;
-  spares = record { answer = λ refuses. absurd refuses; file = λ file here. spares_same file v };
+  spares = record { answer = λ refuses. absurd refuses; file = λ file here. spares_same file v; reason = λ file against here e. reads_none v };
   cause = (refl, refl);
 }
 
@@ -70,25 +69,25 @@ module _ (work : Work) (v0 v1 : View) where
   open_broken NotRoomy why f file here e = tt
   open_broken NotOpened why f file here e = tt
 
-  open_reasons : (fault : OpenFault) → Told v0 (λ file. TellsWhyNot file {X = SessionState} (Err fault)) → TellsFirstReason (Writes work) v0 (status_of_open fault)
-  open_reasons (FileBad p k) why place reason is file here = absurd cc
-  open_reasons (FileReadOnly p r) why place reason is file here =
+  open_reasons : Takes work v0 → (fault : OpenFault) → Told v0 (λ file. TellsWhyNot file {X = SessionState} (Err fault)) → TellsFirstReason (Writes work) v0 (status_of_open fault)
+  open_reasons takes (FileBad p k) why place reason is file here = absurd cc
+  open_reasons takes (FileReadOnly p r) why place reason is file here =
       let w = why file here in
       let one : p ≡ place = cc in
       let other : r ≡ reason = cc in
-      (w.0, subst (λ (x : ℕ × Reason). IsFirstReason file (Some (reason_at x.0 x.1))) (λ i. (one i, other i)) w.1)
-  open_reasons NotRoomy why place reason is file here = absurd cc
-  open_reasons NotOpened why place reason is file here = absurd cc
+      (w.0, subst (λ (x : ℕ × Reason). IsFirstReasonFor work file (Some (reason_at x.0 x.1))) (λ i. (one i, other i)) (reason_given v0 file here (reason_at p r) work takes w.1))
+  open_reasons takes NotRoomy why place reason is file here = absurd cc
+  open_reasons takes NotOpened why place reason is file here = absurd cc
 
-  open_read_only : (fault : OpenFault) → Told v0 (λ file. TellsWhyNot file {X = SessionState} (Err fault)) → RefusesReadOnly (Writes work) v0 (status_of_open fault)
-  open_read_only (FileBad p k) why against file here e =
+  open_read_only : Takes work v0 → (fault : OpenFault) → Told v0 (λ file. TellsWhyNot file {X = SessionState} (Err fault)) → RefusesReadOnly (Writes work) v0 (status_of_open fault)
+  open_read_only takes (FileBad p k) why against file here e =
       let is : header_fault file ≡ Some (fault_at p k) = why file here in
       let none : header_fault file ≡ None = e.0 in
       absurd cc
-  open_read_only (FileReadOnly p r) why against file here e =
-      same_Some against (reason_at p r) (reason_one file (Some against) (Some (reason_at p r)) e.1 (why file here).1)
-  open_read_only NotRoomy why against file here e = tt
-  open_read_only NotOpened why against file here e = tt
+  open_read_only takes (FileReadOnly p r) why against file here e =
+      same_Some against (reason_at p r) (reason_one file (Some against) (Some (reason_at p r)) (reason_taken v0 file here against work takes e.1) (why file here).1)
+  open_read_only takes NotRoomy why against file here e = tt
+  open_read_only takes NotOpened why against file here e = tt
 
   open_answer : (fault : OpenFault) → (IsNotOpened {X = SessionState} (Err fault) → OnlyReads v0 v1) → RefusesFile (status_of_open fault) → OnlyReads v0 v1
   open_answer (FileBad p k) untouched refuses = untouched tt
@@ -125,26 +124,30 @@ starts work v0 v1 opens b begins =
     elapses_as (IsStopOf (run_of_work work b) b.file b.text) (OpensAs b.file b.text b.state) (opens b.file b.text b.state begins.quiet begins.holds begins.said begins.reads)
     (λ image said left. stop_opening (run_of_work work b) b.file b.text image said begins.reads left)
 
-pub not_opened : (work : Work) (input : List ℕ) (v0 v1 : View) (fault : OpenFault) → OpensSo v0 v1
+pub not_opened : (work : Work) (input : List ℕ) (v0 v1 : View) (fault : OpenFault) → Takes work v0 → OpensSo v0 v1
     → ((file : List ℕ) → IsQuiet v0 → v0.holds ≡ Some file → LeavesFileOrUnclosed file v1)
     → Told v0 (λ file. TellsWhyNot file {X = SessionState} (Err fault))
     → Told v0 (λ file. SparesFile file v0 v1)
     → (IsNotOpened {X = SessionState} (Err fault) → OnlyReads v0 v1) → Becomes Any v0.holds v1.holds → v1.said ≡ v0.said → IsOpenCause {X = SessionState} v0 v1 (Err fault)
     → IsLawful v0 → IsLawful v1 → RunsWork work input v0 v1 (status_of_open fault)
-not_opened work input v0 v1 fault opens unclosed why spared untouched told same cause law law' = record {
+not_opened work input v0 v1 fault takes opens unclosed why spared untouched told same cause law law' = record {
   stops = λ b begins is. starts work v0 v1 opens b begins;
   said = λ b begins is.
       said_front v0 v1 b.file b.text (run_of_work work b) law law' begins.holds begins.said (starts work v0 v1 opens b begins) told (grows_none v0.said v1.said same);
-  room = λ b begins is room. silent_room (run_of_work work b) b.text v1 (same ∙ begins.said);
+  room = λ b begins is. silent_room (opening_length b.file) (run_of_work work b) b.text v1 (same ∙ begins.said);
   done = λ b begins is ended. absurd (not_done work v0 v1 fault ended);
   written = λ b begins is ended. absurd (not_done work v0 v1 fault ended);
   unclosed = λ b begins is. open_unclosed work v0 v1 (run_of_work work b) b.file b.text fault (unclosed b.file begins.quiet begins.holds) untouched;
   told = told;
   faults = open_faults work v0 v1 fault why;
   broken = open_broken work v0 v1 fault why;
-  reasons = open_reasons work v0 v1 fault why;
-  read_only = open_read_only work v0 v1 fault why;
-  spares = record { answer = open_answer work v0 v1 fault untouched; file = spared };
+  reasons = open_reasons work v0 v1 takes fault why;
+  read_only = open_read_only work v0 v1 takes fault why;
+  spares = record {
+    answer = open_answer work v0 v1 fault untouched;
+    file = spared;
+    reason = λ file against here e. (spared file here).reason against (reason_taken v0 file here against work takes e);
+  };
   cause = open_cause work v0 v1 fault cause;
 }
 
@@ -250,7 +253,7 @@ session_cause v0 v1 v2 (Err NotSaid) none cause = (cause.0 ∙ none.0, rw (← n
 session_cause v0 v1 v2 (Err OutOfMemory) none cause = (cause.0 ∙ none.0, cause.1 ∙ none.1)
 
 module _ (work : Work) (input : List ℕ) (v0 v1 v2 : View) (s : SessionState) (run : List Link → State → ScriptRun) (r : Result (Unit {0}) SessionFault)
-    (opens : OpensSo v0 v1)
+    (takes : Takes work v0) (opens : OpensSo v0 v1)
     (stands : (file text : List ℕ) (m : State) → v0.holds ≡ Some file → v0.said ≡ Some text → ReadsAsState file m → StandsFor v1 s m text)
     (on : Told v0 (λ file. BeginsOn (target_of work).name (target_of work).datime file v1 s)) (begun : IsBegun (target_of work).datime s)
     (why : Told v0 (λ file. TellsWhyNot file {X = SessionState} (Ok s)))
@@ -260,9 +263,9 @@ module _ (work : Work) (input : List ℕ) (v0 v1 v2 : View) (s : SessionState) (
     → let r = run st.state.links b.state in session_closed_records s st.state.links r.start r.commands ≡ records_of work b)
     (stops : (file text : List ℕ) (m : State) (st : StandsFor v1 s m text) → Elapses v1 v2 (IsStopOf (run st.state.links m) file text))
     (done : OnOk r ((m : State) (text : List ℕ) (st : StandsFor v1 s m text) → HasClosed (run st.state.links m) st.state.links st.file s text v2))
-    (unclosed : (m : State) (text : List ℕ) (st : StandsFor v1 s m text) → StaysOpenBy (EndsUnsaid work) (run st.state.links m) text v2 r)
+    (unclosed : (file : List ℕ) (m : State) (text : List ℕ) (st : StandsFor v1 s m text) → EndsUnclosed work (run st.state.links m) file text v0 v2 (status_of_session r))
     (told12 : Becomes Any v1.holds v2.holds) (said12 : Becomes Grown v1.said v2.said)
-    (room12 : (m : State) (text : List ℕ) (st : StandsFor v1 s m text) → s.costs ≡ 0 → HasFileRoom s.opened m (run st.state.links m).commands (run st.state.links m).marks → SaidFindRoom (run st.state.links m) text v2)
+    (room12 : (m : State) (text : List ℕ) (st : StandsFor v1 s m text) → s.costs ≡ 0 → SaidFindRoom s.opened (run st.state.links m) text v2)
     (cause : IsSessionCause v1 v2 r) (law : IsLawful v0) (law' : IsLawful v2) where
   module _ (b : Beginning) (begins : BeginsRun work b v0) (is : b.input ≡ input) where
     abbrev st : StandsFor v1 s b.state b.text
@@ -292,6 +295,13 @@ module _ (work : Work) (input : List ℕ) (v0 v1 v2 : View) (s : SessionState) (
     opened_is : s.opened ≡ opening_length b.file
     opened_is = (found work v0 v1 s stands on b begins).opened
 
+  -- nothing stands against it
+  none_first : (file : List ℕ) → v0.holds ≡ Some file → (against : ReasonAt) → IsFirstReason file (Some against) → ⊥
+  none_first file here against e = let is : Some against ≡ None = reason_one file (Some against) None e (why file here).1 in cc
+
+  no_reason : (file : List ℕ) → v0.holds ≡ Some file → (against : ReasonAt) → IsFirstReasonFor work file (Some against) → ⊥
+  no_reason file here against e = none_first file here against (reason_taken v0 file here against work takes e)
+
   told02 : Becomes Any v0.holds v2.holds
   told02 = any_join v0.holds v1.holds v2.holds told01 told12
 
@@ -302,10 +312,8 @@ module _ (work : Work) (input : List ℕ) (v0 v1 v2 : View) (s : SessionState) (
         said_front v0 v2 b.file b.text (run_of_work work b) law law' begins.holds begins.said (does_all b begins is) told02
         (grown_join v0.said v1.said v2.said (grows_none v0.said v1.said said01) said12);
     room = λ b begins is.
-        subst (λ (x : ScriptRun). HasFileRoom (opening_length b.file) b.state x.commands x.marks → SaidFindRoom x b.text v2) (its_run b begins is)
-        (λ room.
-        let from = run (st b begins is).state.links b.state in
-        room12 b.state b.text (st b begins is) begun.costs (subst (λ n. HasFileRoom n b.state from.commands from.marks) (sym (opened_is b begins is)) room));
+        subst (λ (x : ScriptRun). SaidFindRoom (opening_length b.file) x b.text v2) (its_run b begins is)
+        (subst (λ (n : ℕ). SaidFindRoom n (run (st b begins is).state.links b.state) b.text v2) (opened_is b begins is) (room12 b.state b.text (st b begins is) begun.costs));
     done = λ b begins is ended.
         let closed = closed_well b begins is ended in
         let from = run (st b begins is).state.links b.state in
@@ -314,7 +322,7 @@ module _ (work : Work) (input : List ℕ) (v0 v1 v2 : View) (s : SessionState) (
           quiet = closed.quiet;
           said = closed.said;
           left = closed.left;
-          room = λ room. closed.room begun.costs (subst (λ n. HasFileRoom n from.start from.commands from.marks) (sym (opened_is b begins is)) room);
+          room = subst (λ (n : ℕ). AllFindRoom n from) (opened_is b begins is) (closed.room begun.costs);
         });
     written = λ b begins is ended.
         let closed = closed_well b begins is ended in
@@ -329,18 +337,19 @@ module _ (work : Work) (input : List ℕ) (v0 v1 v2 : View) (s : SessionState) (
         };
     unclosed = λ b begins is.
         subst (λ (x : ScriptRun). EndsUnclosed work x b.file b.text v0 v2 (status_of_session r)) (its_run b begins is)
-        (ends_unclosed work (run (st b begins is).state.links b.state) b.file b.text v0 v2 r (unclosed b.state b.text (st b begins is)));
+        (unclosed b.file b.state b.text (st b begins is));
     told = told02;
     faults = λ place kind e. absurd (not_bad r place kind e);
     broken = λ fault file here e. let sound : header_fault file ≡ None = (why file here).0 in absurd cc;
     reasons = λ place reason e. absurd (not_read_only r place reason e);
-    read_only = λ against file here e. let no_reason : Some against ≡ None = reason_one file (Some against) None e.1 (why file here).1 in absurd cc;
+    read_only = λ against file here e. absurd (no_reason file here against e.1);
     spares = record {
       answer = λ refuses. absurd (not_refused r refuses);
       file = λ file here. record {
         broken = λ fault e. let sound : header_fault file ≡ None = (why file here).0 in absurd cc;
-        reason = λ against e. let no_reason : Some against ≡ None = reason_one file (Some against) None e (why file here).1 in absurd cc;
+        reason = λ against e. absurd (none_first file here against e);
       };
+      reason = λ file against here e. absurd (no_reason file here against e);
     };
     cause = session_cause v0 v1 v2 r none cause;
   }

@@ -6,17 +6,17 @@ use Rattle.rio_chain.specs.{Segments.{IsChain, Link}, Stops.{KeepsFront}}
 use Rattle.rio_chain.proofs.OneChain.{chain_one}
 use Rattle.rio_dir.specs.Listing.{key_lines}
 use Rattle.rio_machine.specs.{State.{State}, declared.command.Command.{Command}}
-use Rattle.rio_step.specs.Runs.{closed_of, said_of, saved_of, state_after, states_of_run}
-use Rattle.rio_state.specs.{DirectoryKeys.{AreKeysOf}, KeyedRecords.{keyed_records}, Left.{IsLeftAs}, Reads.{ReadsAsState, ReadsClosed}}
-use Rattle.std.specs.List.{slice_get}
+use Rattle.rio_step.specs.Runs.{closed_of, said_of, saved_of, state_after}
+use Rattle.rio_state.specs.{DirectoryKeys.{AreKeysOf}, KeyedRecords.{keyed_records}, Reads.{ReadsAsState, ReadsClosed}}
 use Rattle.rio_effect.specs.FileRuns.{file_run, saved_records}
 use Rattle.rio_session.specs.{Causes.{IsCloseCause, IsSessionCause, NoCountRose}, Closes.{AreSavesTold, ClosesFile, IsWellClosed}, Fillings.{closing}, Kept.{all_done}, Opening.{IsBegun}}
 use Rattle.rio_session.specs.Session.{ClosesAs, IsReady, SessionState, StandsFor, file_records}
 use Rattle.rio_session.specs.declared.fault.SessionFault.{SessionFault, TheVariants.{HostFault, SayFault, NoMemory}}
-use Rattle.rio_session.proofs.{CloseStates.{holds_closed_file}, Opened.{keeps_own, reads_open}, Spoken.{front_part, grows_none, grows_whole}}
+use Rattle.rio_session.specs.declared.replies.Replies.TheVariants.{Printed}
+use Rattle.rio_session.proofs.{CloseStates.{holds_closed_file}, Opened.{keeps_own}, Spoken.{front_part, grows_none, grows_whole}}
 use Rattle.rootio.specs.{Headline.{AllFindRoom, IsStopOf, SaidFindRoom, ScriptRun, all_replies, all_texts, end_state}, Script.{ClosesAndSays, listing_run, session_closed_records}}
 use Rattle.rootio.specs.{Target.{TargetFile}, Writing.{Beginning, BeginsRun, StandsClosed, records_of, run_of_work, without_pending}, declared.words.Work.TheVariants.{Recover}}
-use Rattle.rootio.proofs.{Idle.{none_saved, nothing_left, records_idle}, OrderedKeys.{keys_one}, Scripts.{saved_start}, RunStops.{stop_closing}, Unclosed.{close_open, stands_open}, Untouched.{becomes_same, elapses_none}}
+use Rattle.rootio.proofs.{Idle.{none_saved, nothing_left, records_idle}, OrderedKeys.{keys_one}, Scripts.{saved_start}, RunStops.{stop_closing}, Unclosed.{close_open, closes_none, stands_open}, Untouched.{becomes_same, elapses_none}}
 
 abbrev some_text : List ℕ → Option (List ℕ)
 some_text l = Some l
@@ -39,6 +39,10 @@ module _ (s : SessionState) (lines : List ℕ) (links : List Link) (m : State) w
   end_is : end_state run ≡ closed_of m
   unfolding state_after
   end_is = refl
+
+  state_is : m ≡ state_after run.start run.commands run.marks
+  unfolding state_after
+  state_is = refl
 
   -- it leaves the records that the saves of the close leave
   records_are : session_closed_records s links m [] ≡ (saved_records s.datime (file_records s links) m).links
@@ -64,33 +68,16 @@ module _ (s : SessionState) (lines : List ℕ) (links : List Link) (m : State) w
           text = is ∙ ap (λ (l : List ℕ). l ++ take k lines) closes.text_is;
           commands = omega arith;
           whole = omega arith;
-          part = λ lt. absurd (omega (arith, lt));
+          part = λ printed lt. absurd (omega (arith, lt));
         };
         prefix = stop.prefix;
         holds = omega arith;
-        next = λ lt. absurd (omega (arith, lt));
+        next = λ printed lt. absurd (omega (arith, lt));
       }
 
   -- no reply is want of room
-  finds_room : AllFindRoom run
-  finds_room k c there = absurd (let within : k < length {A = Command} [] = slice_get_within [] k c there in omega (arith, within))
-
-first_state : (m : State) → slice_get (states_of_run m [] []) 0 ≡ Some m
-unfolding states_of_run
-first_state m = refl
-
--- the state of an open file is one of its close
-closes_none : (m : State) (text : List ℕ) (v : View) (s : SessionState) → IsReady v s → IsLawful v → (stands : StandsFor v s m text) → (image said : List ℕ) → Leaves v image said → ClosesAs m text image said
-closes_none m text v s ready law stands image said left =
-    let h = stands.state in
-    let same : image ≡ stands.file = ready.quiet image said stands.file left stands.holds in
-    record {
-      k = 0;
-      state = m;
-      state_is = first_state m;
-      left = subst (λ (l : List ℕ). IsLeftAs (saved_of m) l) (sym same) (reads_open stands.file s.nbytes_name h.links m h.head h.chain.chain h.records).left;
-      text_is = law.text image said text left stands.said;
-    }
+  finds_room : (opened : ℕ) → AllFindRoom opened run
+  finds_room opened k c there = absurd (let within : k < length {A = Command} [] = slice_get_within [] k c there in omega (arith, within))
 
 -- ---- nothing was closed
 
@@ -125,7 +112,7 @@ module _ (v1 v2 : View) (s : SessionState) (lines : List ℕ) (ready : IsReady v
     done = tt;
     unclosed = λ m text stands.
         let r = listing_run s lines stands.state.links m in
-        close_open v1 v2 s m text ready stands law2 StandsClosed r text (Err e)
+        close_open v1 v2 s m text ready stands law1 law2 (time m text stands) StandsClosed r (state_is s lines stands.state.links m) text (Err e)
         (same ∙ stands.said ∙ ap some_text (sym (replies_none s lines stands.state.links m text))) only cause;
     told = told;
     said = grows_none v1.said v2.said same;
@@ -183,7 +170,7 @@ module _ (v1 v2 : View) (s : SessionState) (lines : List ℕ) (ready : IsReady v
         left = ends_closed m text stands;
         written = λ image told left.
             subst (λ (x : List Link). IsWellClosed s.name s.datime stands.file x image) (sym (records_are s lines stands.state.links m)) (well_closed m text stands image told left);
-        room = λ costs room. finds_room s lines stands.state.links m;
+        room = λ costs. finds_room s lines stands.state.links m s.opened;
       };
       unclosed = λ m text stands. tt;
       told = told_all;
@@ -215,8 +202,8 @@ module _ (v1 v2 : View) (s : SessionState) (lines : List ℕ) (ready : IsReady v
 abbrev pub listing_there : SessionState → List Link → State → ScriptRun
 listing_there s links m = listing_run s (key_lines s.heads) links m
 
-pub listing_finds_room : (s : SessionState) (links : List Link) (m : State) (text : List ℕ) (v : View) → SaidFindRoom (listing_there s links m) text v
-listing_finds_room s links m text v said told k c there long = finds_room s (key_lines s.heads) links m k c there
+pub listing_finds_room : (s : SessionState) (links : List Link) (m : State) (text : List ℕ) (v : View) → SaidFindRoom s.opened (listing_there s links m) text v
+listing_finds_room s links m text v said told k c there long = finds_room s (key_lines s.heads) links m s.opened k c there
 
 module _ (target : TargetFile) (v0 v1 : View) (s : SessionState) (begun : IsBegun target.datime s) (b : Beginning) (begins : BeginsRun (Recover target) b v0) (is : b.input ≡ [])
     (st : StandsFor v1 s b.state b.text) (links : st.state.links ≡ b.links) where
@@ -232,7 +219,7 @@ module _ (target : TargetFile) (v0 v1 : View) (s : SessionState) (begun : IsBegu
   its_listing =
       let heads : s.heads ≡ begins.listing.0 = keys_one (keyed_records b.links) s.heads begins.listing.0 (subst (λ (l : List Link). AreKeysOf (keyed_records l) s.heads) links st.state.keys) begins.listing.1 in
       let lines : key_lines s.heads ≡ b.listing = ap key_lines heads ∙ sym begins.listing.2 in
-      λ i. record { start = b.state; commands = []; marks = (file_run (begun.datime_is i) (idle i) b.state []).marks; listing = lines i }
+      λ i. record { start = b.state; commands = []; marks = (file_run (begun.datime_is i) (idle i) b.state []).marks; replies = Printed; listing = lines i }
 
   -- and leaves its records
   pub its_records : session_closed_records s st.state.links b.state [] ≡ records_of (Recover target) b

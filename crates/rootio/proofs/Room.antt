@@ -1,16 +1,15 @@
 -- The costs of a run's commands, and where there is room for them.
-use Rattle.std.proofs.Common.{◌≡◌, inl, inr, ℕ, zero, suc, add-zero, length-append, length-take, Some, Err, ◌+◌, ◌*◌, ◌-◌, ◌^◌, ◌<◌, ◌≤◌, min, List, [], ◌∷◌, ◌++◌, length, take, drop, take-append-drop, subst, sym, refl, ap, ◌∙◌, arith}
+use Rattle.std.proofs.Common.{◌≡◌, inl, inr, ℕ, zero, suc, add-zero, length-append, length-take, Some, Err, ◌+◌, ◌*◌, ◌-◌, ◌^◌, ◌<◌, ◌≤◌, min, List, [], ◌∷◌, ◌++◌, length, take, drop, subst, sym, refl, ap, ◌∙◌, arith}
 use Rattle.std.proofs.{lemmas.Bool.{cases_lt}, lemmas.Option.{get_or_from_slice_get, same_Some, slice_get_within}}
 use Rattle.rio_host.specs.Host.{View}
 use Rattle.rio_machine.specs.{State.{State}, declared.command.Command.{Command, TheVariants.{Ls}}, declared.command.Outcome.{Outcome}}
 use Rattle.rio_machine.specs.declared.refusal.Refusal.TheVariants.{Full}
 use Rattle.rio_step.specs.{Costs.{HasFileRoom, cost_of, costs_of_run, room_limit}, Runs.{Marks, first_step, later_marks, state_after}}
 use Rattle.rio_step.specs.Step.{Reply, class_declared, object_put, item_deleted, tree_made, row_added, rows_saved, object_told, rows_told, items_listed, refused, outcome_of}
-use Rattle.rio_step.specs.ReplyText.{text_of}
-use Rattle.rio_session.specs.{Behind.{SaysPart}, Causes.{IsSaid, SaysNothing}, Session.{LacksRoomIfFull, SessionState, with_cost}}
+use Rattle.rio_session.specs.{Behind.{SaysPart}, Causes.{IsSaid, SaysNothing}, Replying.{reply_text}, Session.{LacksRoomIfFull, SessionState, with_cost}}
 use Rattle.rio_session.specs.declared.fault.SessionFault.{SessionFault, TheVariants.{HostFault, SayFault, NoMemory}}
 use Rattle.rootio.specs.Headline.{AllFindRoom, IsWantOfRoom, SaidFindRoom, ScriptRun, replies, reply_at}
-use Rattle.rootio.proofs.RunStops.{IsNext, behind, pushed, replies_grow, replies_longer}
+use Rattle.rootio.proofs.RunStops.{IsNext, behind, pushed, replies_keep, replies_longer}
 
 costs_push : (m : State) (cs : List Command) (c : Command) (marks : Marks)
     → costs_of_run m (cs ++ c ∷ []) marks ≡ costs_of_run m cs marks + cost_of (state_after m cs marks) c
@@ -20,24 +19,12 @@ costs_push m (d ∷ cs) c marks =
     let h = costs_push (first_step m d marks).state cs c (later_marks marks) in
     omega arith
 
-costs_split : (m : State) (front back : List Command) (marks : Marks) → costs_of_run m front marks ≤ costs_of_run m (front ++ back) marks
-unfolding costs_of_run
-costs_split m [] back marks = omega arith
-costs_split m (d ∷ front) back marks =
-    let h = costs_split (first_step m d marks).state front back (later_marks marks) in
-    omega arith
-
 -- the costs of the first k commands
 abbrev pub costs_to : ScriptRun → ℕ → ℕ
 costs_to r k = costs_of_run r.start (take k r.commands) r.marks
 
 costs_next : (r : ScriptRun) (k : ℕ) (c : Command) → IsNext r k c → costs_to r (k + 1) ≡ costs_to r k + cost_of (behind r k) c
 costs_next r k c next = ap (λ cs. costs_of_run r.start cs r.marks) (pushed r k c next) ∙ costs_push r.start (take k r.commands) c r.marks
-
-costs_whole : (r : ScriptRun) (k : ℕ) → costs_to r k ≤ costs_of_run r.start r.commands r.marks
-costs_whole r k =
-    subst (λ (cs : List Command). costs_to r k ≤ costs_of_run r.start cs r.marks) (take-append-drop k r.commands)
-    (costs_split r.start (take k r.commands) (drop k r.commands) r.marks)
 
 -- The session counts the costs, as far as 64 bits hold them; and a reply of want of room came only where they pass what there is
 -- room for.
@@ -88,14 +75,12 @@ costs_more first s s1 r k c next so outcome opened costs is full =
       ];
     }
 
-pub all_find_room : (first s : SessionState) (r : ScriptRun) (k : ℕ) → length r.commands ≤ k → CostsSo first s r k → first.costs ≡ 0
-    → HasFileRoom first.opened r.start r.commands r.marks → AllFindRoom r
-all_find_room first s r k all so none room j c there want =
+pub all_find_room : (first s : SessionState) (r : ScriptRun) (k : ℕ) → length r.commands ≤ k → CostsSo first s r k → first.costs ≡ 0 → AllFindRoom first.opened r
+all_find_room first s r k all so none j c there room want =
     let within : j < length r.commands = slice_get_within r.commands j c there in
     let next : IsNext r j c = record { within = within; is = get_or_from_slice_get r.commands j c Ls there } in
     let lacks = so.lacks j c (omega (arith, within, all)) next want in
-    let part = costs_whole r (j + 1) in
-    omega (arith, lacks, part, none, room)
+    omega (arith, lacks, none, room)
 
 -- ---- whatever is answered
 
@@ -104,29 +89,27 @@ replies_later : (r : ScriptRun) (k d : ℕ) → k + d ≤ length r.commands → 
 replies_later r k zero le = subst (λ (n : ℕ). length (replies r k) ≤ length (replies r n)) (sym (add-zero k)) (omega arith)
 replies_later r k (suc d) le =
     let one = replies_later r k d (omega (arith, le)) in
-    let more = replies_grow r (k + d) (omega (arith, le)) in
+    let more = replies_keep r (k + d) (omega (arith, le)) in
     let e : k + d + 1 ≡ k + suc d = omega arith in
     subst (λ (n : ℕ). length (replies r k) ≤ length (replies r n)) e (omega (arith, one, more))
 
 -- nothing was said
-pub silent_room : (r : ScriptRun) (text : List ℕ) (new : View) → new.said ≡ Some text → SaidFindRoom r text new
-silent_room r text new is said told k c there long want = omega (arith, ap length (same_Some said text (sym told ∙ is)), long)
+pub silent_room : (opened : ℕ) (r : ScriptRun) (text : List ℕ) (new : View) → new.said ≡ Some text → SaidFindRoom opened r text new
+silent_room opened r text new is said told k c there long room want = omega (arith, ap length (same_Some said text (sym told ∙ is)), long)
 
-module _ (first s : SessionState) (r : ScriptRun) (text : List ℕ) (k : ℕ) (c : Command) (next : IsNext r k c) (so : CostsSo first s r k) (none : first.costs ≡ 0)
-    (room : HasFileRoom first.opened r.start r.commands r.marks) where
-  earlier : (j : ℕ) (d : Command) → j < k → IsNext r j d → IsWantOfRoom (reply_at r j d) → ⊥
-  earlier j d below at want =
+module _ (first s : SessionState) (r : ScriptRun) (text : List ℕ) (k : ℕ) (c : Command) (next : IsNext r k c) (so : CostsSo first s r k) (none : first.costs ≡ 0) where
+  earlier : (j : ℕ) (d : Command) → j < k → IsNext r j d → HasFileRoom first.opened r.start (take (j + 1) r.commands) r.marks → IsWantOfRoom (reply_at r j d) → ⊥
+  earlier j d below at room want =
       let lacks = so.lacks j d below at want in
-      let part = costs_whole r (j + 1) in
-      omega (arith, lacks, part, none, room)
+      omega (arith, lacks, none, room)
 
-  here : LacksRoomIfFull (with_cost (cost_of (behind r k) c) s) (outcome_of (reply_at r k c)) → (d : Command) → IsNext r k d → IsWantOfRoom (reply_at r k d) → ⊥
-  here full d at want =
+  here : LacksRoomIfFull (with_cost (cost_of (behind r k) c) s) (outcome_of (reply_at r k c)) → (d : Command) → IsNext r k d
+      → HasFileRoom first.opened r.start (take (k + 1) r.commands) r.marks → IsWantOfRoom (reply_at r k d) → ⊥
+  here full d at room want =
       let asked : IsWantOfRoom (reply_at r k c) = subst (λ (x : Command). IsWantOfRoom (reply_at r k x)) (same_next r k d c at next) want in
       let lacks = lacking (with_cost (cost_of (behind r k) c) s) (reply_at r k c) full asked in
       let sum = costs_next r k c next in
-      let part = costs_whole r (k + 1) in
-      omega (arith, lacks, so.count, so.opened, sum, part, none, room)
+      omega (arith, lacks, so.count, so.opened, sum, none, room)
 
   module _ (v new : View) (was : v.said ≡ Some (text ++ replies r k)) (said : List ℕ) (told : new.said ≡ Some said) where
     nothing_more : new.said ≡ v.said → length said ≡ length text + length (replies r k)
@@ -134,17 +117,18 @@ module _ (first s : SessionState) (r : ScriptRun) (text : List ℕ) (k : ℕ) (c
 
     this_one : (e : SessionFault) → (SaysNothing {X = Outcome} (Err e) → new.said ≡ v.said)
         → (IsSaid {X = Outcome} (Err e) → LacksRoomIfFull (with_cost (cost_of (behind r k) c) s) (outcome_of (reply_at r k c)))
-        → (d : Command) → IsNext r k d → length text + length (replies r k) < length said → IsWantOfRoom (reply_at r k d) → ⊥
-    this_one HostFault silent full d at long want = omega (arith, nothing_more (silent tt), long)
-    this_one SayFault silent full d at long want = here (full tt) d at want
-    this_one NoMemory silent full d at long want = omega (arith, nothing_more (silent tt), long)
+        → (d : Command) → IsNext r k d → length text + length (replies r k) < length said
+        → HasFileRoom first.opened r.start (take (k + 1) r.commands) r.marks → IsWantOfRoom (reply_at r k d) → ⊥
+    this_one HostFault silent full d at long room want = omega (arith, nothing_more (silent tt), long)
+    this_one SayFault silent full d at long room want = here (full tt) d at room want
+    this_one NoMemory silent full d at long room want = omega (arith, nothing_more (silent tt), long)
 
     -- no more than this reply was said
-    short : SaysPart new (text ++ replies r k) (text_of (reply_at r k c)) → length said ≤ length text + length (replies r (k + 1))
+    short : SaysPart new (text ++ replies r k) (reply_text r.replies (reply_at r k c)) → length said ≤ length text + length (replies r (k + 1))
     short part =
-        let is = ap length (same_Some said ((text ++ replies r k) ++ take part.0 (text_of (reply_at r k c))) (sym told ∙ part.1)) in
-        let one = length-append (text ++ replies r k) (take part.0 (text_of (reply_at r k c))) in
-        omega (arith, is, one, length-append text (replies r k), length-take part.0 (text_of (reply_at r k c)), replies_longer r k c next)
+        let is = ap length (same_Some said ((text ++ replies r k) ++ take part.0 (reply_text r.replies (reply_at r k c))) (sym told ∙ part.1)) in
+        let one = length-append (text ++ replies r k) (take part.0 (reply_text r.replies (reply_at r k c))) in
+        omega (arith, is, one, length-append text (replies r k), length-take part.0 (reply_text r.replies (reply_at r k c)), replies_longer r k c next)
 
     later : (j : ℕ) → k < j → j < length r.commands → length (replies r (k + 1)) ≤ length (replies r j)
     later j behind_k within =
@@ -154,17 +138,37 @@ module _ (first s : SessionState) (r : ScriptRun) (text : List ℕ) (k : ℕ) (c
   -- a command failed
   pub room_at_fault : (v new : View) (e : SessionFault) → v.said ≡ Some (text ++ replies r k) → (SaysNothing {X = Outcome} (Err e) → new.said ≡ v.said)
       → (IsSaid {X = Outcome} (Err e) → LacksRoomIfFull (with_cost (cost_of (behind r k) c) s) (outcome_of (reply_at r k c)))
-      → SaysPart new (text ++ replies r k) (text_of (reply_at r k c)) → SaidFindRoom r text new
-  room_at_fault v new e was silent full part said told j d there long want =
+      → SaysPart new (text ++ replies r k) (reply_text r.replies (reply_at r k c)) → SaidFindRoom first.opened r text new
+  room_at_fault v new e was silent full part said told j d there long room want =
       let within : j < length r.commands = slice_get_within r.commands j d there in
       let at : IsNext r j d = record { within = within; is = get_or_from_slice_get r.commands j d Ls there } in
       elim (cases_lt j k) [
-        | inl in_front ↦ earlier j d in_front at want
+        | inl in_front ↦ earlier j d in_front at room want
         | inr not_in_front ↦ elim (cases_lt k j) [
           | inl behind_k ↦ omega (arith, long, short v new was said told part, later v new was said told j behind_k within)
           | inr not_behind ↦
               let same : j ≡ k = omega (arith, not_in_front, not_behind) in
               let long_here : length text + length (replies r k) < length said = subst (λ (n : ℕ). length text + length (replies r n) < length said) same long in
-              this_one v new was said told e silent full d (subst (λ (n : ℕ). IsNext r n d) same at) long_here (subst (λ (n : ℕ). IsWantOfRoom (reply_at r n d)) same want)
+              let room_here : HasFileRoom first.opened r.start (take (k + 1) r.commands) r.marks =
+              subst (λ (n : ℕ). HasFileRoom first.opened r.start (take (n + 1) r.commands) r.marks) same room in
+              this_one v new was said told e silent full d (subst (λ (n : ℕ). IsNext r n d) same at) long_here room_here (subst (λ (n : ℕ). IsWantOfRoom (reply_at r n d)) same want)
         ]
       ]
+
+-- no next command was to be had, and nothing more was said
+pub room_between : (first s : SessionState) (r : ScriptRun) (text : List ℕ) (k : ℕ) → k ≤ length r.commands → CostsSo first s r k → first.costs ≡ 0
+    → (new : View) → new.said ≡ Some (text ++ replies r k) → SaidFindRoom first.opened r text new
+room_between first s r text k within so none new is said told j d there long room want =
+    let inside : j < length r.commands = slice_get_within r.commands j d there in
+    let at : IsNext r j d = record { within = inside; is = get_or_from_slice_get r.commands j d Ls there } in
+    let all : length said ≡ length text + length (replies r k) = ap length (same_Some said (text ++ replies r k) (sym told ∙ is)) ∙ length-append text (replies r k) in
+    elim (cases_lt j k) [
+      | inl in_front ↦
+          let lacks = so.lacks j d in_front at want in
+          omega (arith, lacks, none, room)
+      | inr not_in_front ↦
+          let e : k + (j - k) ≡ j = omega (arith, not_in_front) in
+          let more : length (replies r k) ≤ length (replies r j) =
+          subst (λ (n : ℕ). length (replies r k) ≤ length (replies r n)) e (replies_later r k (j - k) (omega (arith, inside, not_in_front))) in
+          omega (arith, long, all, more)
+    ]

@@ -6,8 +6,18 @@ use Rattle.rio_machine.specs.{State.{State}, declared.command.Command.{Command, 
 use Rattle.rio_step.proofs.RunLaws.{drop_later, each_says, replies_say_something, runs_begin_alike, said_in_parts}
 use Rattle.rio_step.specs.{ReplyText.{text_of}, Runs.{Marks, first_step, later_marks, said_of, saved_of, state_after, states_of_run}, Step.{Stepped}}
 use Rattle.rio_state.specs.Left.{IsLeftAs}
-use Rattle.rio_session.specs.Session.{ClosesAs}
-use Rattle.rootio.specs.Headline.{HasSaid, HoldsPrefix, IsStopOf, ScriptRun, all_replies, all_texts, replies}
+use Rattle.rio_session.specs.{Replying.{printed_of, reply_text}, Session.{ClosesAs}, declared.replies.Replies.{Replies, TheVariants.{Printed, Omitted}}}
+use Rattle.rootio.specs.Headline.{HasSaid, HoldsPrefix, IsPrinted, IsStopOf, ScriptRun, all_replies, all_texts, replies}
+
+-- ---- what is printed
+
+printed_join : (p : Replies) (front back all : List ℕ) → all ≡ front ++ back → printed_of p all ≡ printed_of p front ++ printed_of p back
+printed_join Printed front back all is = is
+printed_join Omitted front back all is = refl
+
+pub printed_none : (p : Replies) → printed_of p [] ≡ []
+printed_none Printed = refl
+printed_none Omitted = refl
 
 -- ---- one command more
 
@@ -22,7 +32,7 @@ state_push m (d ∷ cs) c marks =
     ∙ ap (λ left. (first_step (state_after next.state cs (later_marks marks)) c left).state) (drop_later (length cs) marks)
 
 -- the states behind all commands are those of the close
-states_end : (m : State) (cs : List Command) (marks : Marks) (k : ℕ)
+pub states_end : (m : State) (cs : List Command) (marks : Marks) (k : ℕ)
     → slice_get (states_of_run m cs marks) (length cs + k) ≡ slice_get (states_of_run (state_after m cs marks) [] []) k
 unfolding states_of_run state_after
 states_end m [] marks k = let e : 0 + k ≡ k = omega arith in ap (slice_get (states_of_run m [] marks)) e
@@ -63,35 +73,49 @@ module _ (r : ScriptRun) (k : ℕ) (c : Command) (next : IsNext r k c) where
       ∙ state_push r.start (take k r.commands) c r.marks
       ∙ ap (λ n. (first_step (behind r k) c (drop n r.marks)).state) front_length
 
-  pub replies_next : replies r (k + 1) ≡ replies r k ++ text_of (step_at r k c).reply
-  replies_next =
+  said_next : said_of r.start (take (k + 1) r.commands) r.marks ≡ said_of r.start (take k r.commands) r.marks ++ text_of (step_at r k c).reply
+  said_next =
       ap (λ cs. said_of r.start cs r.marks) pushed
       ∙ each_says r.start (take k r.commands) c r.marks
-      ∙ ap (λ n. replies r k ++ text_of (first_step (behind r k) c (drop n r.marks)).reply) front_length
+      ∙ ap (λ n. said_of r.start (take k r.commands) r.marks ++ text_of (first_step (behind r k) c (drop n r.marks)).reply) front_length
 
-  pub replies_longer : length (replies r (k + 1)) ≡ length (replies r k) + length (text_of (step_at r k c).reply)
-  replies_longer = ap length replies_next ∙ length-append (replies r k) (text_of (step_at r k c).reply)
+  pub replies_next : replies r (k + 1) ≡ replies r k ++ reply_text r.replies (step_at r k c).reply
+  replies_next =
+      printed_join r.replies (said_of r.start (take k r.commands) r.marks) (text_of (step_at r k c).reply) (said_of r.start (take (k + 1) r.commands) r.marks) said_next
+
+  pub replies_longer : length (replies r (k + 1)) ≡ length (replies r k) + length (reply_text r.replies (step_at r k c).reply)
+  replies_longer = ap length replies_next ∙ length-append (replies r k) (reply_text r.replies (step_at r k c).reply)
 
 -- what is said behind the first k replies
 abbrev later_texts : ScriptRun → ℕ → List ℕ
-later_texts r k = said_of (behind r k) (drop k r.commands) (drop k r.marks) ++ r.listing
+later_texts r k = printed_of r.replies (said_of (behind r k) (drop k r.commands) (drop k r.marks)) ++ r.listing
 
 texts_front : (r : ScriptRun) (k : ℕ) → all_texts r ≡ replies r k ++ later_texts r k
 texts_front r k =
-    ap (λ l. l ++ r.listing) (said_in_parts r.start r.commands r.marks k)
-    ∙ append_assoc (replies r k) (said_of (behind r k) (drop k r.commands) (drop k r.marks)) r.listing
+    let later = said_of (behind r k) (drop k r.commands) (drop k r.marks) in
+    ap (λ l. l ++ r.listing)
+    (printed_join r.replies (said_of r.start (take k r.commands) r.marks) later (said_of r.start r.commands r.marks) (said_in_parts r.start r.commands r.marks k))
+    ∙ append_assoc (replies r k) (printed_of r.replies later) r.listing
 
 take_replies : (r : ScriptRun) (k j : ℕ) → take (length (replies r k) + j) (all_texts r) ≡ replies r k ++ take j (later_texts r k)
 take_replies r k j =
     ap (λ l. take (length (replies r k) + j) l) (texts_front r k)
     ∙ take-append_add (replies r k) (later_texts r k) j (length (replies r k) + j) refl
 
--- no reply is empty
-pub replies_grow : (r : ScriptRun) (k : ℕ) → k < length r.commands → length (replies r k) < length (replies r (k + 1))
-replies_grow r k within =
+-- no reply that is printed is empty
+pub replies_grow : (r : ScriptRun) → IsPrinted r → (k : ℕ) → k < length r.commands → length (replies r k) < length (replies r (k + 1))
+replies_grow r printed k within =
     let next : IsNext r k (get_or r.commands k Ls) = record { within = within; is = refl } in
+    let text = text_of (step_at r k (get_or r.commands k Ls)).reply in
     let some = replies_say_something (step_at r k (get_or r.commands k Ls)).reply in
-    omega (arith, some, replies_longer r k (get_or r.commands k Ls) next)
+    let whole : length (printed_of r.replies text) ≡ length text = ap (λ (p : Replies). length (printed_of p text)) printed in
+    omega (arith, some, whole, replies_longer r k (get_or r.commands k Ls) next)
+
+-- more replies aren't shorter
+pub replies_keep : (r : ScriptRun) (k : ℕ) → k < length r.commands → length (replies r k) ≤ length (replies r (k + 1))
+replies_keep r k within =
+    let next : IsNext r k (get_or r.commands k Ls) = record { within = within; is = refl } in
+    omega (arith, replies_longer r k (get_or r.commands k Ls) next)
 
 -- ---- at a stop
 
@@ -110,7 +134,7 @@ said_between r before said k within is = record {
   text = is ∙ ap (λ l. before ++ l) (sym (append-nil (replies r k)) ∙ sym (take_replies r k 0));
   commands = within;
   whole = omega arith;
-  part = λ lt. omega (arith, replies_grow r k lt);
+  part = λ printed lt. omega (arith, replies_grow r printed k lt);
 }
 
 -- between two commands
@@ -122,12 +146,12 @@ stop_between r file before image said k within prefix is = record {
   replies = said_between r before said k within is;
   prefix = prefix;
   holds = omega arith;
-  next = λ lt. omega arith;
+  next = λ printed lt. omega arith;
 }
 
 module _ (r : ScriptRun) (k : ℕ) (c : Command) (next : IsNext r k c) where
   abbrev reply : List ℕ
-  reply = text_of (step_at r k c).reply
+  reply = reply_text r.replies (step_at r k c).reply
 
   -- a front of the reply stands behind the replies before it
   take_within : (q : ℕ) → q ≤ length reply → take (length (replies r k) + q) (all_texts r) ≡ replies r k ++ take q reply
@@ -142,7 +166,7 @@ module _ (r : ScriptRun) (k : ℕ) (c : Command) (next : IsNext r k c) where
     text = is ∙ append_assoc before (replies r k) (take q reply) ∙ ap (λ l. before ++ l) (sym (take_within q (omega (arith, short))));
     commands = omega (arith, next.within);
     whole = omega arith;
-    part = λ lt. omega (arith, short, replies_longer r k c next);
+    part = λ printed lt. omega (arith, short, replies_longer r k c next);
   }
 
   -- while the reply is said
@@ -155,7 +179,7 @@ module _ (r : ScriptRun) (k : ℕ) (c : Command) (next : IsNext r k c) where
       replies = said_within before said q short is;
       prefix = prefix;
       holds = omega arith;
-      next = λ lt. omega arith;
+      next = λ printed lt. omega arith;
     }
     | inr whole ↦
         stop_between r file before image said (k + 1) (omega (arith, next.within)) prefix
@@ -166,7 +190,7 @@ module _ (r : ScriptRun) (k : ℕ) (c : Command) (next : IsNext r k c) where
 -- ---- within the close
 
 replies_whole : (r : ScriptRun) → replies r (length r.commands) ≡ all_replies r
-replies_whole r = ap (λ cs. said_of r.start cs r.marks) (take_all (length r.commands) r.commands (omega arith))
+replies_whole r = ap (λ cs. printed_of r.replies (said_of r.start cs r.marks)) (take_all (length r.commands) r.commands (omega arith))
 
 pub stop_closing : (r : ScriptRun) (file before image said : List ℕ)
     → ClosesAs (state_after r.start r.commands r.marks) (before ++ all_replies r) image said → IsStopOf r file before image said
@@ -181,5 +205,5 @@ stop_closing r file before image said closes = record {
     closed = λ start. closes.left.closed;
   };
   holds = omega arith;
-  next = λ lt. absurd (omega (arith, lt));
+  next = λ printed lt. absurd (omega (arith, lt));
 }

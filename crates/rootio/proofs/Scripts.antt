@@ -12,12 +12,15 @@ use Rattle.rio_machine.specs.{State.{Row, State, empty_state}, declared.command.
 use Rattle.rio_effect.specs.FileRuns.{file_run}
 use Rattle.rio_session.specs.{Opening.{IsBegun}, Session.{SessionState, StandsFor, file_records}}
 use Rattle.rio_step.proofs.{ClosedLaws.{saved_keeps_the_rest}, RunLaws.{runs_begin_alike}}
-use Rattle.rio_step.specs.{Runs.{said_of, saved_of, saved_tree, state_after}, Script.{script_of}}
+use Rattle.rio_step.specs.Runs.{said_of, saved_of, saved_tree, state_after}
 use Rattle.rio_state.specs.{KeyedRecords.{KeyedRecord, record_at}, Left.{ReadsClosedUnlessOpen}, Reads.{ReadsAsMade, ReadsAsState}}
 use Rattle.rio_state.specs.Trees.{TreesBeside, all_places_named, are_named_once, basket_places, header_in, records_before, saved_rows, saved_tree as read_tree, tree_by, tree_of, tree_under}
-use Rattle.rootio.specs.{Headline.{HoldsPrefix, IsStopOf, ScriptRun, replies}, Script.{session_closed_records, session_run}, Target.{TargetFile}, Writing.{Beginning, BeginsRun, closed_records, without_pending, records_of, run_of_work}}
-use Rattle.rootio.specs.declared.words.Work.TheVariants.{Run}
-use Rattle.rootio.proofs.{Idle.{records_idle}, RunStops.{behind, stop_between}}
+use Rattle.rio_cmd.specs.declared.import_words.ImportWords.{ImportWords}
+use Rattle.rio_session.specs.declared.replies.Replies.{Replies}
+use Rattle.rootio.specs.{Headline.{HoldsPrefix, IsStopOf, ScriptRun, replies}, Records.{closed_records, without_pending}, Script.{session_closed_records, session_run}, Target.{TargetFile}}
+use Rattle.rootio.specs.Writing.{Beginning, BeginsRun, IsListingOf, commands_of, records_behind, records_of, replies_of, run_of_work, target_of}
+use Rattle.rootio.specs.declared.words.Work.{Work, TheVariants.{Run, Import}}
+use Rattle.rootio.proofs.{Idle.{records_idle}, RunStops.{behind, printed_none, stop_between}}
 
 -- ---- the state at the start has no pending rows
 
@@ -69,7 +72,7 @@ behind_start r = refl
 
 replies_start : (r : ScriptRun) → replies r 0 ≡ []
 unfolding said_of
-replies_start r = refl
+replies_start r = printed_none r.replies
 
 -- what a stop leaves then: the state at the start, and nothing said
 abbrev pub OpensAs : List ℕ → List ℕ → State → List ℕ → List ℕ → Type 0
@@ -89,22 +92,40 @@ stop_opening r file text image said reads opens =
 -- ---- the run of a session
 
 -- the run of these commands from a session on
-abbrev pub run_there : SessionState → List Command → List Link → State → ScriptRun
-run_there s commands links m = session_run s links m commands
+abbrev pub run_there : Replies → SessionState → List Command → List Link → State → ScriptRun
+run_there printing s commands links m = session_run printing s links m commands
 
-module _ (target : TargetFile) (script : List ℕ) (v0 v1 : View) (s : SessionState) (commands : List Command) (begun : IsBegun target.datime s) (are : commands ≡ script_of script)
-    (b : Beginning) (begins : BeginsRun (Run target) b v0) (is : b.input ≡ script) (st : StandsFor v1 s b.state b.text) (links : st.state.links ≡ b.links) where
-  all : commands ≡ script_of b.input
-  all = are ∙ ap script_of (sym is)
+-- A verb that prints nothing behind the close, and leaves the records behind its commands.
+pub record IsPlain (work : Work) : Type 0 where
+  pub listing : (links : List Link) (listing : List ℕ) → IsListingOf work links listing → listing ≡ []
+  pub records : (b : Beginning) → records_of work b ≡ records_behind work b
+
+pub run_plain : (target : TargetFile) → IsPlain (Run target)
+run_plain target = record { listing = λ links listing is. is; records = λ b. refl }
+
+pub import_plain : (target : TargetFile) (words : ImportWords) → IsPlain (Import target words)
+import_plain target words = record { listing = λ links listing is. is; records = λ b. refl }
+
+module _ (work : Work) (plain : IsPlain work) (input : List ℕ) (v0 v1 : View) (s : SessionState) (commands : List Command) (begun : IsBegun (target_of work).datime s)
+    (are : commands ≡ commands_of work input)
+    (b : Beginning) (begins : BeginsRun work b v0) (is : b.input ≡ input) (st : StandsFor v1 s b.state b.text) (links : st.state.links ≡ b.links) where
+  all : commands ≡ commands_of work b.input
+  all = are ∙ ap (commands_of work) (sym is)
 
   -- no row was pending
   idle : file_records s st.state.links ≡ without_pending b.links
   idle = records_idle s b.state st.file st.state (saved_start b.file b.state begins.reads) ∙ ap without_pending links
 
   -- a session that began with the run's records does the run of the words
-  pub its_run : run_there s commands st.state.links b.state ≡ run_of_work (Run target) b
-  its_run = λ i. record { start = b.state; commands = all i; marks = (file_run (begun.datime_is i) (idle i) b.state (all i)).marks; listing = sym begins.listing i }
+  pub its_run : run_there (replies_of work) s commands st.state.links b.state ≡ run_of_work work b
+  its_run = λ i. record {
+    start = b.state;
+    commands = all i;
+    marks = (file_run (begun.datime_is i) (idle i) b.state (all i)).marks;
+    replies = replies_of work;
+    listing = sym (plain.listing b.links b.listing begins.listing) i;
+  }
 
   -- and leaves its records
-  pub its_records : session_closed_records s st.state.links b.state commands ≡ records_of (Run target) b
-  its_records = λ i. closed_records (begun.datime_is i) (idle i) b.state (all i)
+  pub its_records : session_closed_records s st.state.links b.state commands ≡ records_of work b
+  its_records = (λ i. closed_records (begun.datime_is i) (idle i) b.state (all i)) ∙ sym (plain.records b)

@@ -1,16 +1,17 @@
 -- How a verb ends that writes: where its input isn't read whole, and where it is.
-use Rattle.std.proofs.Common.{◌≡◌, inl, inr, ℕ, List, [], length, Some, Ok, Err, subst, refl, ap, ◌∙◌, arith}
+use Rattle.std.proofs.Common.{◌≡◌, inl, inr, ℕ, Bool, true, false, List, [], length, Some, Ok, Err, subst, refl, ap, ◌∙◌, arith}
 use Rattle.rio_num.specs.Room.{Room}
 use Rattle.rio_head.specs.{declared.fault.FileFault.{FileFault}, declared.fault.HeadFault.{HeadFault}, declared.reason.Reason.{Reason}}
 use Rattle.rio_host.specs.{Host.{View}, Source.{Input}}
 use Rattle.rio_host.proofs.{Images.{becomes_some}, ReadsLaws.{reads_none}}
 use Rattle.rio_state.specs.Reasons.{ReasonAt}
 use Rattle.rootio.specs.{Causes.{IsCause, NoInputFault}, Headline.{IsStopOf, ScriptRun, all_texts}}
-use Rattle.rootio.specs.{Input.{EndsWithInput, IsPastInput, ReadsAll, RefusesTooLong, TakenAll, TellsTooLong, status_of_input}, Reading.{TellsUnlessCut}}
-use Rattle.rootio.specs.{Script.{IsFileCause, RunsWork, WorksOn}, Target.{TargetFile}, Writing.{Beginning, BeginsRun, EndsUnclosed, RefusesFile, TellsReasonUnlessCut, records_of, run_of_work}}
+use Rattle.rootio.specs.{Input.{EndsWithInput, IsPastInput, ReadsAll, RefusesTooLong, TakenAll, TellsTooLong, status_of_input}, Reading.{TellsUnlessCut, takes_input}}
+use Rattle.rootio.specs.{Script.{IsFileCause, RunsWork, WorksOn}, Writing.{Beginning, BeginsRun, EndsUnclosed, IsInputOf, RefusesFile, TellsReasonUnlessCut, records_of, run_of_work}}
 use Rattle.rootio.specs.declared.input.InputError.{InputError, TheVariants.{Fault, NoMemory as OutOfMemory, TooLong}}
 use Rattle.rootio.specs.declared.status.Status.{Status, TheVariants.{Done, Usage, BadFile, DiskFault, InputFault, NoMemory, InputTooLong, ReadOnly, SayFault}}
-use Rattle.rootio.specs.{declared.words.Form.TheVariants.{Writes}, declared.words.Work.{Work, TheVariants.{Run, Recover}}}
+use Rattle.rootio.specs.{declared.words.Form.TheVariants.{Writes}, declared.words.Work.{Work, TheVariants.{Run, Recover, Import, Generate}}}
+use Rattle.rio_session.specs.Opening.{opening_length}
 use Rattle.rio_session.proofs.Spoken.{front_none}
 use Rattle.rootio.proofs.{Opening.{spares_same}, Room.{silent_room}, Untouched.{becomes_same, elapses_none}}
 
@@ -33,7 +34,7 @@ untouched work v before after status is unclosed too_long limited cause = record
     headline = record {
       stops = λ b begins told. elapses_none v (IsStopOf (run_of_work work b) b.file b.text);
       said = λ b begins told. front_none v v b.text (all_texts (run_of_work work b)) begins.said refl;
-      room = λ b begins told room. silent_room (run_of_work work b) b.text v begins.said;
+      room = λ b begins told. silent_room (opening_length b.file) (run_of_work work b) b.text v begins.said;
       done = λ b begins told ended. absurd (is.done ended);
       written = λ b begins ended. absurd (is.done ended);
       records = λ b begins told ended. absurd (is.done ended);
@@ -42,7 +43,7 @@ untouched work v before after status is unclosed too_long limited cause = record
       order = λ input takes told. inr (reads_none v, refl);
       told = becomes_same v.holds;
     };
-    spares = record { answer = λ refuses. absurd (is.refuses refuses); file = λ file here. spares_same file v };
+    spares = record { answer = λ refuses. absurd (is.refuses refuses); file = λ file here. spares_same file v; reason = λ file against here e. reads_none v };
   };
   too_long = too_long;
   limited = limited;
@@ -53,20 +54,24 @@ untouched work v before after status is unclosed too_long limited cause = record
   cause = cause;
 }
 
-pub no_input : (target : TargetFile) (v : View) (before after : Input) (error : InputError) → ReadsAll before after (Err error)
-    → WorksOn (Run target) v v before after (status_of_input error)
-no_input target v before after Fault read =
-    untouched (Run target) v before after InputFault
-    (record { done = λ e. cc; bad = λ place kind e. cc; read_only = λ place reason e. cc; broken = λ fault. tt; kept = λ against. tt; refuses = λ r. r; past = λ p. p }) (λ run file text. tt)
-    (λ e. absurd cc) (λ reads bytes told long. tt) (refl, refl, refl, read)
-no_input target v before after OutOfMemory read =
-    untouched (Run target) v before after NoMemory
+-- the words or the input found no memory
+pub no_memory : (work : Work) (v : View) (before after : Input) → NoInputFault before after → WorksOn work v v before after NoMemory
+no_memory work v before after none =
+    untouched work v before after NoMemory
     (record { done = λ e. cc; bad = λ place kind e. cc; read_only = λ place reason e. cc; broken = λ fault. tt; kept = λ against. tt; refuses = λ r. r; past = λ p. p }) (λ run file text. inl (reads_none v))
-    (λ e. absurd cc) (λ reads bytes told long. tt) (refl, refl, read)
-no_input target v before after TooLong read =
-    untouched (Run target) v before after InputTooLong
+    (λ e. absurd cc) (λ reads bytes told long. tt) (refl, refl, none)
+
+pub no_input : (work : Work) → takes_input work ≡ true → (v : View) (before after : Input) (error : InputError) → ReadsAll before after (Err error)
+    → WorksOn work v v before after (status_of_input error)
+no_input work takes v before after Fault read =
+    untouched work v before after InputFault
     (record { done = λ e. cc; bad = λ place kind e. cc; read_only = λ place reason e. cc; broken = λ fault. tt; kept = λ against. tt; refuses = λ r. r; past = λ p. p }) (λ run file text. tt)
-    (λ e. read.0) (λ reads bytes told long. tt) (refl, (refl, refl, read.1))
+    (λ e. absurd cc) (λ reads bytes told long. tt) (takes, refl, refl, read)
+no_input work takes v before after OutOfMemory read = no_memory work v before after read
+no_input work takes v before after TooLong read =
+    untouched work v before after InputTooLong
+    (record { done = λ e. cc; bad = λ place kind e. cc; read_only = λ place reason e. cc; broken = λ fault. tt; kept = λ against. tt; refuses = λ r. r; past = λ p. p }) (λ run file text. tt)
+    (λ e. read.0) (λ reads bytes told long. tt) (takes, (refl, refl, read.1))
 
 -- ---- all of it
 
@@ -105,65 +110,85 @@ begins_with : (work : Work) (b : Beginning) (text : List ℕ) (v : View) → Beg
 begins_with work b text v begins =
     record { quiet = begins.quiet; holds = begins.holds; said = begins.said; reads = begins.reads; begins = begins.begins; listing = begins.listing }
 
--- a verb that reads no input
-pub with_none : (target : TargetFile) (old new : View) (input : Input) (status : Status) → RunsWork (Recover target) [] old new status → WorksOn (Recover target) old new input input status
-with_none target old new input status ran = record {
-  writes = record {
-    headline = record {
-      stops = λ b begins here. ran.stops b begins here;
-      said = λ b begins here. ran.said b begins here;
-      room = λ b begins here. ran.room b begins here;
-      done = λ b begins here ended. ran.done b begins here ended;
-      written = λ b begins ended.
-          let w = ran.written (with_text b []) (begins_with (Recover target) b [] old begins) refl ended in
-          (records_of (Recover target) (with_text b []), record { header = w.header; header_is = w.header_is; left = w.left });
-      records = λ b begins here ended. ran.written b begins here ended;
-      unclosed = λ b begins here. ran.unclosed b begins here;
-      input = λ all takes here past. absurd cc;
-      order = λ all takes here. absurd cc;
-      told = ran.told;
-    };
-    spares = ran.spares;
-  };
-  too_long = λ is. absurd (not_too_long old new status ran.cause is);
-  limited = λ reads all here long. absurd cc;
-  faults = ran.faults;
-  broken = ran.broken;
-  reasons = ran.reasons;
-  read_only = ran.read_only;
-  cause = whole_cause (Recover target) old new input input status refl ran.cause;
-}
+-- what its input is
+input_here : (work : Work) (before : Input) (text : List ℕ) → takes_input work ≡ true → IsInputOf work before text → before.remaining ≡ Some text
+input_here (Run target) before text takes is = is
+input_here (Recover target) before text takes is = absurd cc
+input_here (Import target words) before text takes is = is
+input_here (Generate target entries) before text takes is = absurd cc
 
-pub with_input : (target : TargetFile) (old new : View) (before after : Input) (text : Room) (status : Status) → ReadsAll before after (Ok text)
-    → RunsWork (Run target) text.bytes old new status → WorksOn (Run target) old new before after status
-with_input target old new before after text status read ran =
-    let told : (input : List ℕ) → before.remaining ≡ Some input → (rest : List ℕ) × (after.remaining ≡ Some rest) × TakenAll text.bytes input rest =
-    λ input here. becomes_some (TakenAll text.bytes) before.remaining after.remaining input here read.0 in
+input_none : (work : Work) (before : Input) (text : List ℕ) → takes_input work ≡ false → IsInputOf work before text → text ≡ []
+input_none (Run target) before text takes is = absurd cc
+input_none (Recover target) before text takes is = is
+input_none (Import target words) before text takes is = absurd cc
+input_none (Generate target entries) before text takes is = is
+
+not_both : (b : Bool) → b ≡ true → b ≡ false → ⊥
+not_both true one other = cc
+not_both false one other = cc
+
+-- a verb that reads no input
+pub with_none : (work : Work) → takes_input work ≡ false → (old new : View) (input : Input) (status : Status) → RunsWork work [] old new status → WorksOn work old new input input status
+with_none work takes old new input status ran =
+    let none : (b : Beginning) → IsInputOf work input b.input → b.input ≡ [] = λ b here. input_none work input b.input takes here in
     record {
       writes = record {
         headline = record {
-          stops = λ b begins here. ran.stops b begins (told b.input here).2.0;
-          said = λ b begins here. ran.said b begins (told b.input here).2.0;
-          room = λ b begins here. ran.room b begins (told b.input here).2.0;
-          done = λ b begins here ended. ran.done b begins (told b.input here).2.0 ended;
+          stops = λ b begins here. ran.stops b begins (none b here);
+          said = λ b begins here. ran.said b begins (none b here);
+          room = λ b begins here. ran.room b begins (none b here);
+          done = λ b begins here ended. ran.done b begins (none b here) ended;
           written = λ b begins ended.
-              let w = ran.written (with_text b text.bytes) (begins_with (Run target) b text.bytes old begins) refl ended in
-              (records_of (Run target) (with_text b text.bytes), record { header = w.header; header_is = w.header_is; left = w.left });
-          records = λ b begins here ended. ran.written b begins (told b.input here).2.0 ended;
-          unclosed = λ b begins here. ran.unclosed b begins (told b.input here).2.0;
-          input = λ input takes here past. let rest = told input here in rest.1 ∙ ap Some rest.2.1;
-          order = λ input takes here. let rest = told input here in inl (rest.1 ∙ ap Some rest.2.1);
+              let w = ran.written (with_text b []) (begins_with work b [] old begins) refl ended in
+              (records_of work (with_text b []), record { header = w.header; header_is = w.header_is; left = w.left });
+          records = λ b begins here ended. ran.written b begins (none b here) ended;
+          unclosed = λ b begins here. ran.unclosed b begins (none b here);
+          input = λ all reads here past. absurd (not_both (takes_input work) reads takes);
+          order = λ all reads here. absurd (not_both (takes_input work) reads takes);
+          told = ran.told;
+        };
+        spares = ran.spares;
+      };
+      too_long = λ is. absurd (not_too_long old new status ran.cause is);
+      limited = λ reads all here long. absurd (not_both (takes_input work) reads takes);
+      faults = ran.faults;
+      broken = ran.broken;
+      reasons = ran.reasons;
+      read_only = ran.read_only;
+      cause = whole_cause work old new input input status refl ran.cause;
+    }
+
+pub with_input : (work : Work) → takes_input work ≡ true → (old new : View) (before after : Input) (text : Room) (status : Status) → ReadsAll before after (Ok text)
+    → RunsWork work text.bytes old new status → WorksOn work old new before after status
+with_input work takes old new before after text status read ran =
+    let told : (input : List ℕ) → before.remaining ≡ Some input → (rest : List ℕ) × (after.remaining ≡ Some rest) × TakenAll text.bytes input rest =
+    λ input here. becomes_some (TakenAll text.bytes) before.remaining after.remaining input here read.0 in
+    let all : (b : Beginning) → IsInputOf work before b.input → b.input ≡ text.bytes = λ b here. (told b.input (input_here work before b.input takes here)).2.0 in
+    record {
+      writes = record {
+        headline = record {
+          stops = λ b begins here. ran.stops b begins (all b here);
+          said = λ b begins here. ran.said b begins (all b here);
+          room = λ b begins here. ran.room b begins (all b here);
+          done = λ b begins here ended. ran.done b begins (all b here) ended;
+          written = λ b begins ended.
+              let w = ran.written (with_text b text.bytes) (begins_with work b text.bytes old begins) refl ended in
+              (records_of work (with_text b text.bytes), record { header = w.header; header_is = w.header_is; left = w.left });
+          records = λ b begins here ended. ran.written b begins (all b here) ended;
+          unclosed = λ b begins here. ran.unclosed b begins (all b here);
+          input = λ input reads here past. let rest = told input here in rest.1 ∙ ap Some rest.2.1;
+          order = λ input reads here. let rest = told input here in inl (rest.1 ∙ ap Some rest.2.1);
           told = ran.told;
         };
         spares = ran.spares;
       };
       too_long = λ is. absurd (not_too_long old new status ran.cause is);
       limited = λ reads input here long.
-          let all : length input ≡ length text.bytes = ap length (told input here).2.0 in
-          absurd (omega (arith, all, long, read.1));
+          let whole : length input ≡ length text.bytes = ap length (told input here).2.0 in
+          absurd (omega (arith, whole, long, read.1));
       faults = ran.faults;
       broken = ran.broken;
       reasons = ran.reasons;
       read_only = ran.read_only;
-      cause = whole_cause (Run target) old new before after status read.2 ran.cause;
+      cause = whole_cause work old new before after status read.2 ran.cause;
     }

@@ -5,7 +5,7 @@ use Rattle.rio_machine.specs.State.{State}
 use Rattle.rio_step.specs.Runs.{saved_of}
 use Rattle.rio_state.specs.Reads.{ReadsAsState}
 use Rattle.rio_session.specs.Opening.{OpensWith}
-use Rattle.rootio.specs.{Headline.{HasSaid, IsStopOf, ScriptRun, states}, Writing.{Beginning, BeginsRun, IsInputOf, IsListingOf, run_of_work, target_of}, declared.words.Work.{Work}}
+use Rattle.rootio.specs.{Headline.{HasSaid, IsPrinted, IsStopOf, ScriptRun, states}, Writing.{Beginning, BeginsRun, IsInputOf, IsListingOf, run_of_work, target_of}, declared.words.Work.{Work}}
 
 -- one call: its verb, what it begins with, the image that is left of the file, and what was said up to that moment
 pub record Call : Type 0 where
@@ -54,7 +54,7 @@ pub record HoldsPrefixOf (c : Call) (m n : State) : Type 0 where
   pub state_is : slice_get (states (run_at c m)) k ≡ Some state
   pub saved : n ≡ saved_of state
   pub holds : j ≤ k
-  pub next : j < length (run_at c m).commands → k ≤ j + 1
+  pub next : IsPrinted (run_at c m) → j < length (run_at c m).commands → k ≤ j + 1
 
 -- A call leads to the state as which its image reads: that of a prefix, or that of before, where it said nothing.
 pub record LeadsTo (c : Call) (m n : State) : Type 0 where

@@ -7,10 +7,10 @@ use Rattle.rio_report.specs.{Dump.{dumped_file}, FirstFault.{HeaderAlone, Tests,
 use Rattle.rio_report.specs.{RowForms.{row_form}, Scan.{scanned_file}}
 use Rattle.rio_close.specs.Causes.{AnyKind, IsTested, NoKind}
 use Rattle.rio_report.specs.Lists.{AtOnce, InPieces, ListingAnswer, Lists}
-use Rattle.rootio.specs.Status.{status_of}
+use Rattle.rootio.specs.{Status.{status_of}, Words.{are_of_import}}
 use Rattle.rootio.specs.declared.status.Status.{Status, TheVariants.{Done, Usage, BadFile, DiskFault, InputFault, NoMemory, InputTooLong, ReadOnly, SayFault}}
 use Rattle.rootio.specs.{declared.words.Form.{Form, TheVariants.{Reads, Writes}}, declared.words.Listing.{Listing, TheVariants.{Ls, Dump, Scan, Export}}}
-use Rattle.rootio.specs.declared.words.Work.{Work, TheVariants.{Run, Recover}}
+use Rattle.rootio.specs.declared.words.Work.{Work, TheVariants.{Run, Recover, Import, Generate}}
 
 -- ---- what the words ask for
 
@@ -20,7 +20,7 @@ reading_of None = None
 reading_of (Some (Reads list)) = Some list
 reading_of (Some (Writes work)) = None
 
--- whether the verb's host may write
+-- whether the verb is one that writes
 abbrev pub writes_of : Option Form → Bool
 writes_of None = false
 writes_of (Some (Reads list)) = false
@@ -32,16 +32,24 @@ work_of_form None = None
 work_of_form (Some (Reads list)) = None
 work_of_form (Some (Writes work)) = Some work
 
--- the verbs that write and read the input
-abbrev pub takes_script : Work → Bool
-takes_script (Run target) = true
-takes_script (Recover target) = false
+-- the verbs that write and read the input: a script, or the rows of an import
+abbrev pub takes_input : Work → Bool
+takes_input (Run target) = true
+takes_input (Recover target) = false
+takes_input (Import target words) = true
+takes_input (Generate target entries) = false
 
 -- whether the verb reads the input
 abbrev pub reads_input : Option Form → Bool
 reads_input None = false
 reads_input (Some (Reads list)) = false
-reads_input (Some (Writes work)) = takes_script work
+reads_input (Some (Writes work)) = takes_input work
+
+-- words without a form are told; those of an import take memory, which may run out while they are read
+abbrev pub TellsUsage : List (List ℕ) → Status → Type 0
+TellsUsage words Usage = Unit {0}
+TellsUsage words NoMemory = are_of_import words ≡ true
+TellsUsage words other = ⊥
 
 -- ---- what it tests
 

@@ -1,23 +1,29 @@
 -- A script on a file: how a run of it ends.
-use Rattle.std.specs.Prelude.{◌≡◌, ◌⊎◌, ℕ, List, [], ◌++◌, Some, Result, Ok, Err, OnOk}
+use Rattle.std.specs.Prelude.{◌≡◌, ◌⊎◌, ℕ, List, [], ◌++◌, Option, None, Some, Result, Ok, Err, OnOk}
 use Rattle.rio_head.specs.Head.{IsHeaderKind}
 use Rattle.rio_host.specs.{Host.{Any, Becomes, Elapses, IsQuiet, Leaves, Rose, View}, OnlyReads.{Grown}, Source.{Input}}
 use Rattle.rio_report.specs.FirstFault.{HeaderAlone}
 use Rattle.rio_close.specs.Causes.{NoDiskFault, NoSayFault}
 use Rattle.rio_machine.specs.{State.{State}, declared.command.Command.{Command}}
-use Rattle.rio_step.specs.{Costs.{HasFileRoom}, Runs.{state_after}}
+use Rattle.rio_step.specs.Runs.{state_after}
 use Rattle.rio_state.specs.Reads.{ReadsAsState, ReadsClosed}
 use Rattle.rio_chain.specs.{Chains.{HasChain}, Segments.{Link}, Stops.{KeepsFront}}
 use Rattle.rio_effect.specs.FileRuns.{FileRun, file_run}
 use Rattle.rio_session.specs.{Behind.{SaysPart}, Causes.{IsSessionCause}, Closes.{IsWellClosed}, Opening.{opening_length}, Session.{SessionState, StandsFor, file_records}}
+use Rattle.rio_session.specs.declared.replies.Replies.{Replies, TheVariants.{Printed}}
 use Rattle.rio_session.specs.declared.fault.OpenFault.{OpenFault, TheVariants.{BadFile as FileBad, ReadOnly as FileReadOnly, NoMemory as NotRoomy, HostFault as NotOpened}}
 use Rattle.rio_session.specs.declared.fault.SessionFault.{SessionFault, TheVariants.{HostFault, SayFault as NotSaid, NoMemory as OutOfMemory}}
 use Rattle.rootio.specs.{Causes.{IsCause}, Input.{RefusesTooLong, TellsTooLong}}
 use Rattle.rootio.specs.Headline.{AllFindRoom, IsRunDone, IsStopOf, SaidFindRoom, ScriptRun, all_replies, all_texts, end_state}
 use Rattle.rootio.specs.Reading.{RefusesBroken, TellsFirstFault}
-use Rattle.rootio.specs.Writing.{Beginning, BeginsRun, EndsUnclosed, EndsWriting, LeavesOpen, LeavesRun, RefusesReadOnly, SparesRefused, StandsClosed, TellsFirstReason, closed_records, run_of_work}
+use Rattle.rootio.specs.Writing.{Beginning, BeginsRun, EndsInClose, EndsUnclosed, EndsWriting, LeavesOpen, LeavesRun, RefusesReadOnly, SparesRefused, StandsClosed, TellsFirstReason, closed_records, run_of_work}
 use Rattle.rootio.specs.declared.status.Status.{Status, TheVariants.{Done, Usage, BadFile, DiskFault, InputFault, NoMemory, InputTooLong, ReadOnly, SayFault}}
 use Rattle.rootio.specs.{declared.words.Form.TheVariants.{Writes}, declared.words.Work.{Work}}
+
+-- the commands that a source has left; none where memory ran out
+abbrev pub commands_in : Option (List Command) → List Command
+commands_in None = []
+commands_in (Some commands) = commands
 
 -- what these commands do to the file of a session that has these records
 abbrev pub session_file_run : SessionState → List Link → State → List Command → FileRun
@@ -27,13 +33,18 @@ session_file_run s links m commands = file_run s.datime (file_records s links) m
 abbrev pub session_closed_records : SessionState → List Link → State → List Command → List Link
 session_closed_records s links m commands = closed_records s.datime (file_records s links) m commands
 
--- the run of these commands from a session on, whose file has these records
-abbrev pub session_run : SessionState → List Link → State → List Command → ScriptRun
-session_run s links m commands = record { start = m; commands = commands; marks = (session_file_run s links m commands).marks; listing = [] }
+-- the run of these commands from a session on, whose file has these records, with replies that are said or omitted
+abbrev pub session_run : Replies → SessionState → List Link → State → List Command → ScriptRun
+session_run replies s links m commands =
+    record { start = m; commands = commands; marks = (session_file_run s links m commands).marks; replies = replies; listing = [] }
 
 -- the run of these commands from where a session stands
+abbrev pub run_by : {v : View} {s : SessionState} {m : State} {text : List ℕ} → Replies → StandsFor v s m text → List Command → ScriptRun
+run_by {s = s} {m = m} replies stands commands = session_run replies s stands.state.links m commands
+
+-- where all replies are said
 abbrev pub run_from : {v : View} {s : SessionState} {m : State} {text : List ℕ} → StandsFor v s m text → List Command → ScriptRun
-run_from {s = s} {m = m} stands commands = session_run s stands.state.links m commands
+run_from stands commands = run_by Printed stands commands
 
 -- The file has the records that this run on files leaves, each at its place and with its bytes; the session keeps which of them are baskets
 -- of pending rows. The first 100 bytes are as before the run.
@@ -50,7 +61,7 @@ pub record HasDone (r : ScriptRun) (links : List Link) (file : List ℕ) (first 
   pub stands : StandsFor new s (state_after r.start r.commands r.marks) (before ++ all_replies r)
   pub name : s.name ≡ first.name
   pub datime : s.datime ≡ first.datime
-  pub room : first.costs ≡ 0 → HasFileRoom first.opened r.start r.commands r.marks → AllFindRoom r
+  pub room : first.costs ≡ 0 → AllFindRoom first.opened r
 
 -- All commands were done on this file with these records, all was said, and the file was closed, without garbage, with the records of
 -- the run and of the saves of its close.
@@ -60,19 +71,19 @@ pub record HasClosed (r : ScriptRun) (links : List Link) (file : List ℕ) (firs
   pub left : (image said : List ℕ) → Leaves new image said → ReadsAsState image (end_state r) × ReadsClosed image (end_state r)
   pub written : (image said : List ℕ) → Leaves new image said
       → IsWellClosed first.name first.datime file (session_closed_records first links r.start r.commands) image
-  pub room : first.costs ≡ 0 → HasFileRoom first.opened r.start r.commands r.marks → AllFindRoom r
+  pub room : first.costs ≡ 0 → AllFindRoom first.opened r
 
 -- A session that ended without a close, as it does where it finds no memory, can't say a text or its disk fails, leaves a file
--- marked as open, and where it can't say a text what is told here; unless it is the close whose disk fails, behind all replies.
+-- marked as open, and where it can't say a text what is told here; unless it is the close whose disk fails, behind all commands.
 abbrev pub StaysOpenBy : (ScriptRun → List ℕ → View → Type 0) → ScriptRun → List ℕ → View → Result (Unit {0}) SessionFault → Type 0
 StaysOpenBy unsaid r before new (Ok x) = Unit {0}
-StaysOpenBy unsaid r before new (Err HostFault) = LeavesOpen new ⊎ (new.said ≡ Some (before ++ all_replies r))
+StaysOpenBy unsaid r before new (Err HostFault) = LeavesOpen new ⊎ EndsInClose r before new
 StaysOpenBy unsaid r before new (Err NotSaid) = unsaid r before new
 StaysOpenBy unsaid r before new (Err OutOfMemory) = LeavesOpen new
 
 -- the run of no command from a session on, with these lines said after the close
 abbrev pub listing_run : SessionState → List ℕ → List Link → State → ScriptRun
-listing_run s lines links m = record { start = m; commands = []; marks = (session_file_run s links m []).marks; listing = lines }
+listing_run s lines links m = record { start = m; commands = []; marks = (session_file_run s links m []).marks; replies = Printed; listing = lines }
 
 -- An open file is closed, and then these lines are said.
 pub record ClosesAndSays (old new : View) (s : SessionState) (lines : List ℕ) (result : Result (Unit {0}) SessionFault) : Type 0 where
@@ -100,7 +111,7 @@ status_of_open (FileReadOnly place reason) = ReadOnly place reason
 status_of_open NotRoomy = NoMemory
 status_of_open NotOpened = DiskFault
 
--- why a run ended that reads no input
+-- why a run ended whose input was read, or that reads none
 abbrev pub IsFileCause : View → View → Status → Type 0
 IsFileCause old new Done = NoDiskFault old new × NoSayFault old new
 IsFileCause old new Usage = ⊥
@@ -117,7 +128,7 @@ pub record RunsWork (work : Work) (input : List ℕ) (old new : View) (status : 
   pub stops : (b : Beginning) → BeginsRun work b old → b.input ≡ input → Elapses old new (IsStopOf (run_of_work work b) b.file b.text)
   pub said : (b : Beginning) → BeginsRun work b old → b.input ≡ input → SaysPart new b.text (all_texts (run_of_work work b))
   pub room : (b : Beginning) → BeginsRun work b old → b.input ≡ input
-      → let r = run_of_work work b in HasFileRoom (opening_length b.file) b.state r.commands r.marks → SaidFindRoom r b.text new
+      → SaidFindRoom (opening_length b.file) (run_of_work work b) b.text new
   pub done : (b : Beginning) → BeginsRun work b old → b.input ≡ input → status ≡ Done → IsRunDone (run_of_work work b) b.file b.text new
   pub written : (b : Beginning) → BeginsRun work b old → b.input ≡ input → status ≡ Done → LeavesRun work b new
   pub unclosed : (b : Beginning) → BeginsRun work b old → b.input ≡ input
@@ -127,7 +138,7 @@ pub record RunsWork (work : Work) (input : List ℕ) (old new : View) (status : 
   pub broken : RefusesBroken HeaderAlone old status
   pub reasons : TellsFirstReason (Writes work) old status
   pub read_only : RefusesReadOnly (Writes work) old status
-  pub spares : SparesRefused old new status
+  pub spares : SparesRefused work old new status
   pub cause : IsFileCause old new status
 
 -- ---- with the input

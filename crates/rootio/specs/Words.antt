@@ -1,12 +1,13 @@
 -- The form of the words of the command line.
-use Rattle.std.specs.Prelude.{ℕ, ◌+◌, ℤ, pos, List, [], ◌∷◌, length, take, drop, codes, Option, Some, None, option_map, option_and_then, Bool, true, not, nat_le, position, ◌==◌, ◌&&◌, if◌then◌else◌}
+use Rattle.std.specs.Prelude.{◌≤◌, ℕ, ◌+◌, ℤ, pos, List, [], ◌∷◌, length, take, drop, codes, Option, Some, None, option_map, option_and_then, Bool, true, false, not, nat_le, position, ◌==◌, ◌&&◌, ◌||◌, if◌then◌else◌}
 use Rattle.std.specs.{List.{list_all}, Str.{bytes_eq}}
 use Rattle.rio_num.specs.Word.{is_item_text, is_name_text}
+use Rattle.rio_cmd.specs.ImportWords.{IsImport, gen_of, import_of}
 use Rattle.rio_token.specs.Words.{num_between_of, num_of}
 use Rattle.rio_types.specs.declared.class.Base.{Base}
 use Rattle.rio_report.specs.declared.item.Item.{Item}
 use Rattle.rootio.specs.{declared.words.Form.{Form, TheVariants.{Reads, Writes}}, declared.words.Listing.TheVariants.{Ls, Dump, Scan, Export}}
-use Rattle.rootio.specs.{declared.words.Work.TheVariants.{Run, Recover}, Target.{TargetFile}}
+use Rattle.rootio.specs.{declared.words.Work.{Work, TheVariants.{Run, Recover, Import, Generate}}, Target.{TargetFile}}
 
 -- a word that doesn't begin with -
 abbrev pub is_no_flag : List ℕ → Bool
@@ -97,6 +98,18 @@ run_of file args = option_map (λ target. Writes (Run target)) (target_by file a
 abbrev pub recover_of : List ℕ → List (List ℕ) → Option Form
 recover_of file args = option_map (λ target. Writes (Recover target)) (target_by file args)
 
+-- a file without a datime behind it
+abbrev pub target_at_1 : List ℕ → TargetFile
+target_at_1 file = record { name = file; datime = 1 }
+
+-- import FILE TREE EVERY SPEC...
+abbrev pub import_of_words : List ℕ → List (List ℕ) → Option Form
+import_of_words file args = option_map (λ words. Writes (Import (target_at_1 file) words)) (import_of args)
+
+-- gen FILE N
+abbrev pub gen_of_words : List ℕ → List (List ℕ) → Option Form
+gen_of_words file args = option_map (λ entries. Writes (Generate (target_at_1 file) entries)) (gen_of args)
+
 -- what a verb is asked for by the file and the words behind it
 abbrev pub asked_by : List ℕ → List ℕ → List (List ℕ) → Option Form
 asked_by verb file args =
@@ -106,9 +119,36 @@ asked_by verb file args =
     else if bytes_eq verb (codes "export") then export_of args
     else if bytes_eq verb (codes "run") then run_of file args
     else if bytes_eq verb (codes "recover") then recover_of file args
+    else if bytes_eq verb (codes "import") then import_of_words file args
+    else if bytes_eq verb (codes "gen") then gen_of_words file args
     else None
 
 -- VERB FILE ARG..., where neither FILE nor an ARG begins with -
 abbrev pub form_of_words : List (List ℕ) → Option Form
 form_of_words (verb ∷ file ∷ args) = if is_file file && list_all is_no_flag args then asked_by verb file args else None
 form_of_words _ = None
+
+-- What is asked for by words that have a form: of an import what a line of a script can state, of a generated file 1 to 1,000,000
+-- entries.
+abbrev pub IsAsked : Work → Type 0
+IsAsked (Run target) = Unit {0}
+IsAsked (Recover target) = Unit {0}
+IsAsked (Import target words) = IsImport words
+IsAsked (Generate target entries) = (1 ≤ entries) × (entries ≤ 1000000)
+
+-- ---- by the verb alone
+
+-- the words ask for an import, of whatever form they are
+abbrev pub are_of_import : List (List ℕ) → Bool
+are_of_import [] = false
+are_of_import (verb ∷ words) = bytes_eq verb (codes "import")
+
+-- the verbs that write
+abbrev pub is_writing_verb : List ℕ → Bool
+is_writing_verb verb =
+    bytes_eq verb (codes "run") || bytes_eq verb (codes "recover") || bytes_eq verb (codes "import") || bytes_eq verb (codes "gen")
+
+-- whether the file may be written, by the verb alone
+abbrev pub may_write : List (List ℕ) → Bool
+may_write [] = false
+may_write (verb ∷ words) = is_writing_verb verb

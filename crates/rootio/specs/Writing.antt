@@ -1,28 +1,43 @@
 -- What the verbs that write do: their commands, and what they leave of the file.
-use Rattle.std.specs.Prelude.{◌≡◌, ◌⊎◌, ℕ, ◌+◌, List, [], ◌++◌, slice_get, true, Option, Some, None, MatchBool}
-use Rattle.rio_head.specs.declared.reason.Reason.{Reason}
+use Rattle.std.specs.Prelude.{◌≡◌, ◌⊎◌, ℕ, ◌+◌, List, [], ◌++◌, length, slice_get, true, Option, Some, None, MatchBool}
+use Rattle.rio_head.specs.declared.reason.Reason.{Reason, TheVariants.{NotNew}}
 use Rattle.rio_host.specs.{Host.{Any, Becomes, Elapses, IsQuiet, Leaves, View}, OnlyReads.{OnlyReads}, Source.{Input}}
 use Rattle.rio_key.specs.declared.head.KeyHead.{KeyHead}
 use Rattle.rio_dir.specs.{Listing.{key_lines}, Unborn.{header_fault, is_unborn}}
 use Rattle.rio_machine.specs.{State.{State}, declared.command.Command.{Command}}
 use Rattle.rio_state.specs.{Closing.{name_in}, DirectoryKeys.{AreKeysOf}, KeyedRecords.{keyed_records}, Left.{IsMarkedOpen, open_end}, Reads.{ReadsAsState, ReadsClosed}, Reasons.{IsFirstReason, ReasonAt, reason_at}}
-use Rattle.rio_step.specs.{Costs.{HasFileRoom}, ReplyText.{text_of}, Runs.{saved_of, state_after}, Script.{script_of}}
+use Rattle.rio_step.specs.{Runs.{saved_of}, Script.{script_of}}
 use Rattle.rio_chain.specs.Segments.{Link}
 use Rattle.rio_close.specs.EndWord.{SaysEnd}
-use Rattle.rio_effect.specs.FileRuns.{FileRecords, FileRun, file_run, none_put, saved_records}
+use Rattle.rio_csv.specs.Import.{import_script}
+use Rattle.rio_effect.specs.FileRuns.{FileRun}
+use Rattle.rio_gen.specs.Generated.{gen_script}
 use Rattle.rio_create.specs.NewFile.{new_file}
 use Rattle.rio_session.specs.{Behind.{SaysPart}, Closes.{IsWellClosed}, Opening.{LeavesFileOrUnclosed, OpensWith, SparesFile, opening_length}}
+use Rattle.rio_session.specs.{Replying.{reply_text}, declared.replies.Replies.{Replies, TheVariants.{Printed, Omitted}}}
 use Rattle.rootio.specs.{Headline.{IsRunDone, IsStopOf, SaidFindRoom, ScriptRun, all_replies, all_texts, end_state, replies, reply_at, states}, Input.{IsPastInput}}
-use Rattle.rootio.specs.{Reading.{takes_script}, Target.{TargetFile}}
+use Rattle.rootio.specs.{Generated.{generated_line}, Reading.{takes_input}, Target.{TargetFile}}
+pub use Rattle.rootio.specs.Records.{closed_records, file_run_from, without_pending}
 use Rattle.rootio.specs.declared.status.Status.{Status, TheVariants.{Done, Usage, BadFile, DiskFault, InputFault, NoMemory, InputTooLong, ReadOnly, SayFault}}
-use Rattle.rootio.specs.{declared.words.Form.{Form, TheVariants.{Reads, Writes}}, declared.words.Work.{Work, TheVariants.{Run, Recover}}}
+use Rattle.rootio.specs.{declared.words.Form.{Form, TheVariants.{Reads, Writes}}, declared.words.Work.{Work, TheVariants.{Run, Recover, Import, Generate}}}
 
 -- ---- what stands against writing
+
+-- a file that is made stands against a generated one
+abbrev pub not_new : ReasonAt
+not_new = reason_at 0 NotNew
+
+-- the first reason against what a verb does to a file, if there is one; that the file is made is the only one against a generated one
+abbrev pub IsFirstReasonFor : Work → List ℕ → Option ReasonAt → Type 0
+IsFirstReasonFor (Run target) file against = IsFirstReason file against
+IsFirstReasonFor (Recover target) file against = IsFirstReason file against
+IsFirstReasonFor (Import target words) file against = IsFirstReason file against
+IsFirstReasonFor (Generate target entries) file against = MatchBool (is_unborn file) (against ≡ None) (against ≡ Some not_new)
 
 -- This is why the verb doesn't write to a file, whose header breaks no rule: the first reason against it, and its place.
 abbrev pub IsReasonFor : Form → List ℕ → ReasonAt → Type 0
 IsReasonFor (Reads list) file against = ⊥
-IsReasonFor (Writes work) file against = (header_fault file ≡ None) × IsFirstReason file (Some against)
+IsReasonFor (Writes work) file against = (header_fault file ≡ None) × IsFirstReasonFor work file (Some against)
 
 -- a reason that is told is the first one
 abbrev pub TellsFirstReason : Form → View → Status → Type 0
@@ -62,9 +77,10 @@ RefusesFile (ReadOnly place reason) = Unit {0}
 RefusesFile SayFault = ⊥
 
 -- A file that is refused isn't written to; nor is one that breaks a rule or has a reason against it, whatever is answered.
-pub record SparesRefused (old new : View) (status : Status) : Type 0 where
+pub record SparesRefused (work : Work) (old new : View) (status : Status) : Type 0 where
   pub answer : RefusesFile status → OnlyReads old new
   pub file : (file : List ℕ) → old.holds ≡ Some file → SparesFile file old new
+  pub reason : (file : List ℕ) (against : ReasonAt) → old.holds ≡ Some file → IsFirstReasonFor work file (Some against) → OnlyReads old new
 
 -- ---- runs that end early
 
@@ -78,33 +94,55 @@ pub record StandsUnsaid (r : ScriptRun) (before : List ℕ) (new : View) : Type 
   pub j : ℕ
   pub command : Command
   pub command_is : slice_get r.commands j ≡ Some command
-  pub text : SaysPart new (before ++ replies r j) (text_of (reply_at r j command))
+  pub text : SaysPart new (before ++ replies r j) (reply_text r.replies (reply_at r j command))
   pub state : State
   pub state_is : slice_get (states r) (j + 1) ≡ Some state
   pub left : (image said : List ℕ) → Leaves new image said → ReadsAsState image (saved_of state) × IsMarkedOpen image
 
--- All replies were printed and the file was closed. Of the listing that follows only a prefix was printed. Each crash image reads as the
+-- All replies were printed, if they are, and the file was closed. Of the listing that follows only a prefix was printed. Each crash image reads as the
 -- last state, by the walk and by the key list.
 pub record StandsClosed (r : ScriptRun) (before : List ℕ) (new : View) : Type 0 where
   pub text : SaysPart new (before ++ all_replies r) r.listing
   pub left : (image said : List ℕ) → Leaves new image said → ReadsAsState image (end_state r) × ReadsClosed image (end_state r)
 
+-- the image reads as a state of the close: behind all commands and some of the closing saves, without pending rows
+pub record IsOfClose (r : ScriptRun) (image : List ℕ) : Type 0 where
+  pub k : ℕ
+  pub state : State
+  pub state_is : slice_get (states r) (length r.commands + k) ≡ Some state
+  pub reads : ReadsAsState image (saved_of state)
+
+-- The close failed. All replies were printed, if they are, and each crash image reads as a state of the close.
+pub record EndsInClose (r : ScriptRun) (before : List ℕ) (new : View) : Type 0 where
+  pub said : new.said ≡ Some (before ++ all_replies r)
+  pub left : (image said : List ℕ) → Leaves new image said → IsOfClose r image
+
 -- what a run leaves whose print fails
 abbrev pub EndsUnsaid : Work → ScriptRun → List ℕ → View → Type 0
 EndsUnsaid (Run target) r before new = StandsUnsaid r before new
 EndsUnsaid (Recover target) r before new = StandsClosed r before new
+EndsUnsaid (Import target words) r before new = StandsUnsaid r before new
+EndsUnsaid (Generate target entries) r before new = StandsClosed r before new
+
+-- What a run leaves that ends behind the close, before it prints: a generated file is read again there.
+abbrev pub EndsRead : Work → ScriptRun → List ℕ → View → Type 0
+EndsRead (Run target) r before new = ⊥
+EndsRead (Recover target) r before new = ⊥
+EndsRead (Import target words) r before new = ⊥
+EndsRead (Generate target entries) r before new = StandsClosed r before new
 
 -- How a run ends early. If a reply can't be printed, what its command did stands, and the file isn't closed; if the listing can't be
 -- printed, the file is closed. If memory runs out, nothing was written, or each crash image is marked as open. If the disk fails, a crash
--- image is the file of before, isn't made yet or is marked as open; or it is the close that failed, after all replies.
+-- image is the file of before, isn't made yet or is marked as open; or it is the close that failed, behind all commands. With either
+-- fault a generated file may also be closed and not yet read again.
 abbrev pub EndsUnclosed : Work → ScriptRun → List ℕ → List ℕ → View → View → Status → Type 0
 EndsUnclosed work r file before old new Done = Unit {0}
 EndsUnclosed work r file before old new Usage = Unit {0}
 EndsUnclosed work r file before old new (BadFile place kind) = Unit {0}
 EndsUnclosed work r file before old new DiskFault =
-    OnlyReads old new ⊎ (LeavesFileOrUnclosed file new ⊎ (new.said ≡ Some (before ++ all_replies r)))
+    OnlyReads old new ⊎ (LeavesFileOrUnclosed file new ⊎ (EndsInClose r before new ⊎ EndsRead work r before new))
 EndsUnclosed work r file before old new InputFault = Unit {0}
-EndsUnclosed work r file before old new NoMemory = OnlyReads old new ⊎ LeavesOpen new
+EndsUnclosed work r file before old new NoMemory = OnlyReads old new ⊎ (LeavesOpen new ⊎ EndsRead work r before new)
 EndsUnclosed work r file before old new InputTooLong = Unit {0}
 EndsUnclosed work r file before old new (ReadOnly place reason) = Unit {0}
 EndsUnclosed work r file before old new SayFault = EndsUnsaid work r before new
@@ -115,11 +153,22 @@ EndsUnclosed work r file before old new SayFault = EndsUnsaid work r before new
 abbrev pub target_of : Work → TargetFile
 target_of (Run target) = target
 target_of (Recover target) = target
+target_of (Import target words) = target
+target_of (Generate target entries) = target
 
 -- the commands that it does, by its input
 abbrev pub commands_of : Work → List ℕ → List Command
 commands_of (Run target) input = script_of input
 commands_of (Recover target) input = []
+commands_of (Import target words) input = import_script words.tree words.branches words.every input
+commands_of (Generate target entries) input = gen_script entries
+
+-- whether their replies are said
+abbrev pub replies_of : Work → Replies
+replies_of (Run target) = Printed
+replies_of (Recover target) = Printed
+replies_of (Import target words) = Printed
+replies_of (Generate target entries) = Omitted
 
 -- the lines that ls prints for the keys of the objects and trees among these records
 abbrev pub ListsKeys : List Link → List ℕ → Type 0
@@ -129,11 +178,15 @@ ListsKeys links listing = (heads : List KeyHead) × AreKeysOf (keyed_records lin
 abbrev pub IsListingOf : Work → List Link → List ℕ → Type 0
 IsListingOf (Run target) links listing = listing ≡ []
 IsListingOf (Recover target) links listing = ListsKeys links listing
+IsListingOf (Import target words) links listing = listing ≡ []
+IsListingOf (Generate target entries) links listing = listing ≡ generated_line target entries links
 
 -- this is its input, where it reads one
 abbrev pub IsInputOf : Work → Input → List ℕ → Type 0
 IsInputOf (Run target) before input = before.remaining ≡ Some input
 IsInputOf (Recover target) before input = input ≡ []
+IsInputOf (Import target words) before input = before.remaining ≡ Some input
+IsInputOf (Generate target entries) before input = input ≡ []
 
 -- What a run begins with: the file, the text printed before, and the input; the records that something refers to, or those of a new file,
 -- and the state that they stand for; and what is to be printed after the close.
@@ -145,26 +198,13 @@ pub record Beginning : Type 0 where
   pub state : State
   pub listing : List ℕ
 
--- these records, none of which is a basket of pending rows
-abbrev pub without_pending : List Link → FileRecords
-without_pending links = record { links = links; put = none_put }
-
--- what commands do at this time to a file that has just these records
-abbrev pub file_run_from : ℕ → List Link → State → List Command → FileRun
-file_run_from datime links m commands = file_run datime (without_pending links) m commands
-
--- the records behind commands and the saves of the close
-abbrev pub closed_records : ℕ → FileRecords → State → List Command → List Link
-closed_records datime now m commands =
-    let run = file_run datime now m commands in (saved_records datime run.records (state_after m commands run.marks)).links
-
--- and what those of a verb do
+-- what the commands of a verb do to the file
 abbrev pub file_run_of : Work → Beginning → FileRun
 file_run_of work b = file_run_from (target_of work).datime b.links b.state (commands_of work b.input)
 
 abbrev pub run_of_work : Work → Beginning → ScriptRun
 run_of_work work b =
-    record { start = b.state; commands = commands_of work b.input; marks = (file_run_of work b).marks; listing = b.listing }
+    record { start = b.state; commands = commands_of work b.input; marks = (file_run_of work b).marks; replies = replies_of work; listing = b.listing }
 
 -- the first 100 bytes of the open file are those of this one: a new file, or the file of before with the mark of an open file
 abbrev pub IsOpenHeader : TargetFile → List ℕ → List ℕ → Type 0
@@ -178,10 +218,16 @@ pub record LeavesClosed (work : Work) (b : Beginning) (links : List Link) (v : V
   pub left : (image said : List ℕ) → Leaves v image said
       → IsWellClosed (name_in (keyed_records b.links)) (target_of work).datime header links image
 
--- the records that a verb leaves: behind the commands of a script and the saves of its close; a recovery leaves those that it begins with
+-- the records behind the commands of a verb and the saves of its close
+abbrev pub records_behind : Work → Beginning → List Link
+records_behind work b = closed_records (target_of work).datime (without_pending b.links) b.state (commands_of work b.input)
+
+-- those that it leaves: a recovery those that it begins with
 abbrev pub records_of : Work → Beginning → List Link
-records_of (Run target) b = closed_records target.datime (without_pending b.links) b.state (script_of b.input)
+records_of (Run target) b = records_behind (Run target) b
 records_of (Recover target) b = b.links
+records_of (Import target words) b = records_behind (Import target words) b
+records_of (Generate target entries) b = records_behind (Generate target entries) b
 
 -- They are the records of the run, each at its place and with its bytes.
 abbrev pub LeavesRun : Work → Beginning → View → Type 0
@@ -202,30 +248,31 @@ pub record BeginsRun (work : Work) (b : Beginning) (old : View) : Type 0 where
   pub listing : IsListingOf work b.links b.listing
 
 -- Wherever it is stopped, whatever it answers, it leaves a prefix of the run. What it said is a front of all that the run says, and where file
--- and commands leave room for them, no reply of which something was said is want of room. Where it says that it is done it is, and each
--- file that a stop leaves then was closed under its name and time, without garbage, with the records of the run; where it ends early it
--- doesn't close the file, unless it is a recovery that could not say its listing. A verb that reads the input reads all of it before anything else: where it could not, nothing was written and no
--- call looked at the file, and no answer tells of the file, its disk or its text.
+-- and commands so far leave room for a command, its reply isn't want of room, if something of it was said. Where it says that it is done it
+-- is, and each file that a stop leaves then was closed under its name and time, without garbage, with the records of the run; where it ends
+-- early it doesn't close the file, unless it is a recovery that could not say its listing, or a generated file behind its close. A verb that
+-- reads the input reads all of it before anything else: where it could not, nothing was written and no call looked at the file, and no
+-- answer tells of the file, its disk or its text.
 pub record KeepsHeadline (work : Work) (old new : View) (before after : Input) (status : Status) : Type 0 where
   pub stops : (b : Beginning) → BeginsRun work b old → IsInputOf work before b.input
       → Elapses old new (IsStopOf (run_of_work work b) b.file b.text)
   pub said : (b : Beginning) → BeginsRun work b old → IsInputOf work before b.input
       → SaysPart new b.text (all_texts (run_of_work work b))
   pub room : (b : Beginning) → BeginsRun work b old → IsInputOf work before b.input
-      → let r = run_of_work work b in HasFileRoom (opening_length b.file) b.state r.commands r.marks → SaidFindRoom r b.text new
+      → SaidFindRoom (opening_length b.file) (run_of_work work b) b.text new
   pub done : (b : Beginning) → BeginsRun work b old → IsInputOf work before b.input
       → status ≡ Done → IsRunDone (run_of_work work b) b.file b.text new
   pub written : (b : Beginning) → BeginsRun work b old → status ≡ Done → (links : List Link) × LeavesClosed work b links new
   pub records : (b : Beginning) → BeginsRun work b old → IsInputOf work before b.input → status ≡ Done → LeavesRun work b new
   pub unclosed : (b : Beginning) → BeginsRun work b old → IsInputOf work before b.input
       → EndsUnclosed work (run_of_work work b) b.file b.text old new status
-  pub input : (input : List ℕ) → takes_script work ≡ true → before.remaining ≡ Some input
+  pub input : (input : List ℕ) → takes_input work ≡ true → before.remaining ≡ Some input
       → IsPastInput status → after.remaining ≡ Some []
-  pub order : (input : List ℕ) → takes_script work ≡ true → before.remaining ≡ Some input
+  pub order : (input : List ℕ) → takes_input work ≡ true → before.remaining ≡ Some input
       → (after.remaining ≡ Some []) ⊎ IsUntouched old new
   pub told : Becomes Any old.holds new.holds
 
 -- How a run ends that writes.
 pub record EndsWriting (work : Work) (old new : View) (before after : Input) (status : Status) : Type 0 where
   pub headline : KeepsHeadline work old new before after status
-  pub spares : SparesRefused old new status
+  pub spares : SparesRefused work old new status

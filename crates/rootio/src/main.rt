@@ -1,10 +1,12 @@
 //! Reads and writes CERN's ROOT files: `rootio VERB FILE ARG...`.
 //!
-//! `run` does what the words ask for, over any host and input. `form_of_words` tells which form they have.
+//! `run` does what the words ask for, over any host and input. `read_form` tells which form they have.
 //! `say_file` prints a listing by the calls of `rio_report`. `run_script` opens the file as a session of
 //! `rio_session`, does the commands of the script and closes it; `recover_file` opens it, closes it and
-//! prints its keys. How it ended is a `Status`, from which `code` and `told_line` make the exit status and
-//! the line on standard error. `main` gives `run` the file and the streams of the process.
+//! prints its keys. `run_import` does the commands that the rows of a CSV text are, which come one by one
+//! (`do_from`), and `generate_file` those of a generated file, which it reads again. How it ended is a
+//! `Status`, from which `code` and `told_line` make the exit status and the line on standard error. `main`
+//! gives `run` the file and the streams of the process.
 //!
 //! `specs/Words.antt` has the forms, `Headline.antt` what a run leaves wherever it is cut off, `InARow.antt`
 //! what several calls on one file leave, `Causes.antt` why a run ended so, `Complete.antt` that all is done
@@ -12,6 +14,8 @@
 #![tactic(auto)]
 
 mod class_word;
+mod generate;
+mod import;
 mod input;
 mod item_word;
 mod laws;
@@ -19,6 +23,7 @@ mod recovery;
 #[cfg(test)]
 mod rows;
 mod script;
+mod source;
 mod split;
 mod status;
 mod streams;

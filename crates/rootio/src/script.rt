@@ -4,7 +4,6 @@ ghost use Rattle.std.specs.List.{list_all};
 ghost use Rattle.rio_host.specs.Host.{Any, Becomes, Elapses};
 ghost use Rattle.rio_host.specs.OnlyReads.{Grown};
 ghost use Rattle.rio_machine.specs.State.{State};
-ghost use Rattle.rio_step.specs.Costs.{HasFileRoom};
 ghost use Rattle.rio_step.specs.Statable.{is_statable};
 ghost use Rattle.rio_session.specs.Causes.{IsSessionCause};
 ghost use Rattle.rio_session.specs.Session.{IsReady, StandsFor};
@@ -52,9 +51,8 @@ fn do_commands<H: Host>(
     ensures said { Becomes Grown (H.view host.old).said (H.view host.new).said }
     ensures room { (m : State) (text : List ℕ)
         → (stands : StandsFor (H.view host.old) session.old m text) → session.old.costs ≡ 0
-        → let r = run_from stands commands.now in
-        HasFileRoom session.old.opened m r.commands r.marks
-        → SaidFindRoom r text (H.view host.new) }
+        → SaidFindRoom session.old.opened (run_from stands commands.now) text
+        (H.view host.new) }
     ensures cause { IsSessionCause (H.view host.old) (H.view host.new) result }
 {
     for command in commands {
@@ -88,9 +86,8 @@ fn do_and_close<H: Host>(
     ensures said { Becomes Grown (H.view host.old).said (H.view host.new).said }
     ensures room { (m : State) (text : List ℕ)
         → (stands : StandsFor (H.view host.old) session m text) → session.costs ≡ 0
-        → let r = run_from stands commands.now in
-        HasFileRoom session.opened m r.commands r.marks
-        → SaidFindRoom r text (H.view host.new) }
+        → SaidFindRoom session.opened (run_from stands commands.now) text
+        (H.view host.new) }
     ensures cause { IsSessionCause (H.view host.old) (H.view host.new) result }
 {
     do_commands(&mut session, host, commands)?;

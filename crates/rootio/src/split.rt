@@ -1,8 +1,7 @@
 //! The words of the command line, as clap splits them, and what the host is given of them.
 ghost use Rattle.std.specs.Prelude.{◌≡◌, ◌&&◌};
 ghost use Rattle.rootio.specs.Naming.{file_word};
-ghost use Rattle.rootio.specs.Reading.{writes_of};
-ghost use Rattle.rootio.specs.Words.{form_of_words};
+ghost use Rattle.rootio.specs.Words.{may_write};
 
 use crate::words::may_write;
 use clap::error::ErrorKind;
@@ -46,7 +45,7 @@ pub fn file_word(words: &Words, split: bool) -> &[u8]
 
 /// Whether the host may write: only by a verb that writes, and only where the words are split.
 pub fn host_may_write(words: &Words, split: bool) -> bool
-    ensures { result ≡ (split && writes_of (form_of_words words.now)) }
+    ensures { result ≡ (split && may_write words.now) }
 {
     split && may_write(words)
 }

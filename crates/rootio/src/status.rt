@@ -23,7 +23,7 @@ pub enum Status {
     InputFault,
     /// There was no memory.
     NoMemory,
-    /// The input has more bytes than a script may have.
+    /// The input has more bytes than it may have.
     InputTooLong,
     /// Nothing is written to the file, for this reason at this place.
     ReadOnly { place: u64, reason: Reason },

@@ -1,17 +1,20 @@
 //! The top call.
-ghost use Rattle.std.specs.Prelude.{◌≡◌, ◌≤◌, ◌↔◌, Some, None, false, length};
+ghost use Rattle.std.specs.Prelude.{◌≡◌, ◌≤◌, Some, None, false, length};
+ghost use Rattle.rio_cmd.specs.ImportWords.{IsImport};
 ghost use Rattle.rootio.specs.Causes.{IsCause};
 ghost use Rattle.rootio.specs.Complete.{IsComplete};
 ghost use Rattle.rootio.specs.InARow.{LeavesCalls};
 ghost use Rattle.rootio.specs.Input.{EndsWithInput, RefusesTooLong, TellsTooLong, status_of_input};
 ghost use Rattle.rootio.specs.Reading.{EndsListing, RefusesBroken, TellsFirstFault};
-ghost use Rattle.rootio.specs.Reading.{reading_of, reads_input, rules_of, takes_script, work_of_form};
+ghost use Rattle.rootio.specs.Reading.{TellsUsage, reading_of, reads_input, rules_of, takes_input, work_of_form};
 ghost use Rattle.rootio.specs.Script.{WorksOn};
 ghost use Rattle.rootio.specs.Status.{status_of};
-ghost use Rattle.rootio.specs.Words.{form_of_words};
+ghost use Rattle.rootio.specs.Words.{IsAsked, form_of_words};
 ghost use Rattle.rootio.specs.Writing.{EndsWriting, RefusesReadOnly, TellsFirstReason, target_of};
 
 use crate::class_word::ClassWord;
+use crate::generate::generate_file;
+use crate::import::run_import;
 use crate::input::{InputError, read_input};
 use crate::item_word::ItemWord;
 use crate::recovery::recover_file;
@@ -19,7 +22,8 @@ use crate::script::run_script;
 use crate::status::Status;
 use crate::target::Target;
 use crate::tree_word::TreeWord;
-use crate::words::{Form, Listing, Work, form_of_words};
+use crate::words::{Form, Listing, Work, read_form};
+use rio_cmd::ImportWords;
 use rio_host::{Host, Source};
 use rio_num::{NoMemory, Words};
 use rio_report::{ReportFault, say_dump, say_ls, say_scan};
@@ -38,11 +42,15 @@ use std::alloc::Global;
 /// | `export FILE TREE` | the same as CSV: a line of fields for each entry |
 /// | `run FILE [DATIME]` | the commands of the script, which is the input, are done on the file, and it is closed |
 /// | `recover FILE [DATIME]` | the file is opened and closed, and a line for each of its keys is said |
+/// | `import FILE TREE EVERY SPEC...` | a tree is made with a branch for each SPEC, each row of CSV, which is the input, is filled in, the tree is saved after each EVERY rows, where that isn't 0, and the file is closed |
+/// | `gen FILE N` | a new file is made with a tree of N entries in 20 branches and closed, and a line of what it holds is said |
 ///
 /// The order is words, input, file, then command by command, and the close. Whatever ends a run ends it where it comes.
+/// The words of an import take memory, so a run may end with them for want of it.
 pub fn run<H: Host, S: Source>(alloc: Global, words: &Words, host: &mut H, input: &mut S) -> Status
-    ensures usage { (result ≡ Status.Usage) ↔ (form_of_words words.now ≡ None) }
-    ensures usage_alone { result ≡ Status.Usage → host.new ≡ host.old }
+    ensures usage { result ≡ Status.Usage → form_of_words words.now ≡ None }
+    ensures formless { form_of_words words.now ≡ None → TellsUsage words.now result }
+    ensures usage_alone { form_of_words words.now ≡ None → host.new ≡ host.old }
     ensures input { reads_input (form_of_words words.now) ≡ false → input.new ≡ input.old }
     // An input that is told to be too long is so, and one that is too long is told; then the file isn't looked at.
     ensures too_long { TellsTooLong (S.view input.old) result }
@@ -75,10 +83,11 @@ pub fn run<H: Host, S: Source>(alloc: Global, words: &Words, host: &mut H, input
         → IsComplete form (H.view host.old) (H.view host.new)
         (S.view input.old) (S.view input.new) result }
 {
-    match form_of_words(words) {
-        None => Status::Usage,
-        Some(Form::Reads(list)) => say_file(alloc, host, &list),
-        Some(Form::Writes(work)) => write_file(alloc, host, input, &work),
+    match read_form(alloc, words) {
+        Ok(None) => Status::Usage,
+        Ok(Some(Form::Reads(list))) => say_file(alloc, host, &list),
+        Ok(Some(Form::Writes(work))) => write_file(alloc, host, input, &work),
+        Err(NoMemory) => Status::NoMemory,
     }
 }
 
@@ -190,16 +199,39 @@ fn do_script<H: Host, S: Source>(
     }
 }
 
+// The rows of an import are read and filled in.
+fn do_import<H: Host, S: Source>(
+    alloc: Global,
+    host: &mut H,
+    input: &mut S,
+    target: &Target,
+    words: &ImportWords,
+) -> Status
+    requires name { length target.now.name ≤ 200 }
+    requires stated { IsImport words.now }
+    ensures work { WorksOn (Work.Import target.now words.now) (H.view host.old) (H.view host.new)
+        (S.view input.old) (S.view input.new) result }
+    ensures input_alone { EndsWithInput result → host.new ≡ host.old }
+{
+    match read_input(alloc, input) {
+        Ok(rows) => run_import(alloc, host, target, words, rows.as_slice()),
+        Err(error) => status_of_input(error),
+    }
+}
+
 // What a verb answers that writes.
 fn write_file<H: Host, S: Source>(alloc: Global, host: &mut H, input: &mut S, work: &Work) -> Status
-    requires { length (target_of work.now).name ≤ 200 }
+    requires name { length (target_of work.now).name ≤ 200 }
+    requires asked { IsAsked work.now }
     ensures work { WorksOn work.now (H.view host.old) (H.view host.new)
         (S.view input.old) (S.view input.new) result }
-    ensures input { takes_script work.now ≡ false → input.new ≡ input.old }
+    ensures input { takes_input work.now ≡ false → input.new ≡ input.old }
     ensures input_alone { EndsWithInput result → host.new ≡ host.old }
 {
     match work {
         Work::Run { target } => do_script(alloc, host, input, target),
         Work::Recover { target } => recover_file(alloc, host, target),
+        Work::Import { target, words } => do_import(alloc, host, input, target, words),
+        Work::Generate { target, entries } => generate_file(alloc, host, target, *entries),
     }
 }

@@ -1,16 +1,17 @@
 //! The words of the command line.
-ghost use Rattle.std.specs.Prelude.{◌≡◌, ◌==◌, nat_le, position};
+ghost use Rattle.std.specs.Prelude.{◌≡◌, ◌==◌, nat_le, position, true, codes, IfOk, OnErr};
 ghost use Rattle.std.specs.Str.{bytes_eq};
 ghost use Rattle.std.specs.List.{list_all};
-ghost use Rattle.rootio.specs.Reading.{writes_of};
-ghost use Rattle.rootio.specs.Words.{asked_by, class_in_version, class_of, cycle_item, dump_of, export_of, form_of_words, is_file, is_no_flag, item_of, ls_of, newest_item, recover_of, run_of, scan_in_version, scan_of, scan_of_words, target_by, tree_of, version_of};
+ghost use Rattle.rootio.specs.Words.{are_of_import, asked_by, class_in_version, class_of, cycle_item, dump_of, export_of, form_of_words, gen_of_words, import_of_words, is_file, is_no_flag, is_writing_verb, item_of, ls_of, may_write, newest_item, recover_of, run_of, scan_in_version, scan_of, scan_of_words, target_at_1, target_by, tree_of, version_of};
 
 use crate::class_word::ClassWord;
 use crate::item_word::ItemWord;
 use crate::target::Target;
 use crate::tree_word::TreeWord;
-use rio_num::{Name, Words, is_item, is_name};
+use rio_cmd::{ImportWords, read_gen_words, read_import_words};
+use rio_num::{Name, NoMemory, Words, is_item, is_name};
 use rio_token::{parse_num, parse_num_between};
+use std::alloc::Global;
 
 /// What the words ask for, where they have a form.
 #[derive(Drop)]
@@ -43,12 +44,27 @@ pub enum Listing<'a> {
 }
 
 /// What is done to a file.
-#[derive(Debug, Drop)]
+#[derive(Drop)]
 pub enum Work<'a> {
     /// `run FILE` and `run FILE DATIME`: the commands of a script are done. The input is the script.
-    Run { target: Target<'a> },
+    Run {
+        target: Target<'a>,
+    },
     /// `recover FILE` and `recover FILE DATIME`: the file is opened and closed, and its keys are said.
-    Recover { target: Target<'a> },
+    Recover {
+        target: Target<'a>,
+    },
+    /// `import FILE TREE EVERY SPEC...`: a tree is made with a branch for each SPEC, a row of CSV becomes an entry, and the
+    /// tree is saved after each EVERY rows, where that isn't 0. The input are the rows.
+    Import {
+        target: Target<'a>,
+        words: ImportWords,
+    },
+    /// `gen FILE N`: a new file is made, with a tree of N entries, and it is said what it holds.
+    Generate {
+        target: Target<'a>,
+        entries: u32,
+    },
 }
 
 // A word that begins with `-` has no place in any form.
@@ -262,24 +278,72 @@ fn recover_of<'a>(file: &'a [u8], args: &[Name]) -> Option<Form<'a>>
     }
 }
 
-// What a verb is asked for by the file and the words behind it.
-fn asked_by<'a>(verb: &[u8], file: &'a [u8], args: &'a [Name]) -> Option<Form<'a>>
-    ensures { result ≡ asked_by verb.now file.now args.now }
+// A file without a datime behind it.
+fn target_at_1(file: &[u8]) -> Target<'_>
+    ensures { result ≡ target_at_1 file.now }
+{
+    Target {
+        name: file,
+        datime: 1,
+    }
+}
+
+fn import_of_words<'a>(
+    alloc: Global,
+    file: &'a [u8],
+    args: &[Name],
+) -> Result<Option<Form<'a>>, NoMemory>
+    ensures { IfOk result (λ form. form ≡ import_of_words file.now args.now) }
+{
+    match read_import_words(alloc, args)? {
+        Some(words) => Ok(Some(Form::Writes(Work::Import {
+            target: target_at_1(file),
+            words,
+        }))),
+        None => Ok(None),
+    }
+}
+
+fn gen_of_words<'a>(file: &'a [u8], args: &[Name]) -> Option<Form<'a>>
+    ensures { result ≡ gen_of_words file.now args.now }
+{
+    match read_gen_words(args) {
+        Some(entries) => Some(Form::Writes(Work::Generate {
+            target: target_at_1(file),
+            entries,
+        })),
+        None => None,
+    }
+}
+
+// What a verb is asked for by the file and the words behind it. Those of an import take memory.
+fn asked_by<'a>(
+    alloc: Global,
+    verb: &[u8],
+    file: &'a [u8],
+    args: &'a [Name],
+) -> Result<Option<Form<'a>>, NoMemory>
+    ensures form { IfOk result (λ form. form ≡ asked_by verb.now file.now args.now) }
+    ensures err { OnErr result (bytes_eq verb.now (codes "import") ≡ true) }
 {
     if is_verb(verb, b"ls") {
-        ls_of(args)
+        Ok(ls_of(args))
     } else if is_verb(verb, b"dump") {
-        dump_of(args)
+        Ok(dump_of(args))
     } else if is_verb(verb, b"scan") {
-        scan_of_words(args)
+        Ok(scan_of_words(args))
     } else if is_verb(verb, b"export") {
-        export_of(args)
+        Ok(export_of(args))
     } else if is_verb(verb, b"run") {
-        run_of(file, args)
+        Ok(run_of(file, args))
     } else if is_verb(verb, b"recover") {
-        recover_of(file, args)
+        Ok(recover_of(file, args))
+    } else if is_verb(verb, b"import") {
+        import_of_words(alloc, file, args)
+    } else if is_verb(verb, b"gen") {
+        Ok(gen_of_words(file, args))
     } else {
-        None
+        Ok(None)
     }
 }
 
@@ -289,28 +353,38 @@ fn are_plain(words: &[Name]) -> bool
     words.iter().all(|word| is_plain(word.as_slice()))
 }
 
-/// The form that the words have: None where they are of no form.
-pub fn form_of_words(words: &Words) -> Option<Form<'_>>
-    ensures { result ≡ form_of_words words.now }
+/// The form that the words have: None where they are of no form. Only those of an import take memory.
+pub fn read_form(alloc: Global, words: &Words) -> Result<Option<Form<'_>>, NoMemory>
+    ensures form { IfOk result (λ form. form ≡ form_of_words words.now) }
+    ensures err { OnErr result (are_of_import words.now ≡ true) }
 {
     match words.as_slice() {
         [verb, file, args @ ..] => {
             if names_file(file.as_slice()) && are_plain(args) {
-                asked_by(verb.as_slice(), file.as_slice(), args)
+                asked_by(alloc, verb.as_slice(), file.as_slice(), args)
             } else {
-                None
+                Ok(None)
             }
         }
-        _ => None,
+        _ => Ok(None),
     }
+}
+
+fn is_writing_verb(verb: &[u8]) -> bool
+    ensures { result ≡ is_writing_verb verb.now }
+{
+    is_verb(verb, b"run")
+        || is_verb(verb, b"recover")
+        || is_verb(verb, b"import")
+        || is_verb(verb, b"gen")
 }
 
 /// Whether the file may be written: only by a verb that writes.
 pub fn may_write(words: &Words) -> bool
-    ensures { result ≡ writes_of (form_of_words words.now) }
+    ensures { result ≡ may_write words.now }
 {
-    match form_of_words(words) {
-        Some(Form::Writes(_)) => true,
-        _ => false,
+    match words.as_slice() {
+        [verb, ..] => is_writing_verb(verb.as_slice()),
+        [] => false,
     }
 }

@@ -9,8 +9,8 @@ use rio_num::{Bytes, NoMemory};
 use rio_recover::{Recovered, is_unborn, recover};
 use std::alloc::Global;
 
-// The classes of trees, which each class list has before the declared ones.
-const TREES: &str =
+/// The classes of trees, which each class list has before the declared ones.
+pub(super) const TREES: &str =
     "class TTree 120 : TNamed { fEntries: i64, fBranches: TObjArray, fLeaves: TObjArray }\n\
     class TBranch 113 : TNamed { fEntryOffsetLen: i32, fWriteBasket: i32, fMaxBaskets: i32, fEntries: i64, \
     fBranches: TObjArray, fLeaves: TObjArray, fBaskets: TObjArray, fBasketBytes: i32[fMaxBaskets], \
@@ -48,8 +48,8 @@ fn stands(alloc: Global, image: &[u8], place: usize, bytes: &[&str]) -> bool {
     }
 }
 
-// A run of these lines on a new file, if each says its reply.
-fn host_of_lines(alloc: Global, lines: &[Line]) -> Option<MemHost> {
+/// A run of these lines on a new file, if each says its reply.
+pub(super) fn host_of_lines(alloc: Global, lines: &[Line]) -> Option<MemHost> {
     match (script_of(alloc, lines), replies_to(alloc, lines)) {
         (Ok(script), Ok(said)) => host_after(alloc, script.as_slice(), said.as_slice()),
         _ => None,
@@ -78,7 +78,8 @@ struct Row {
     dump: &'static str,
 }
 
-const NODE: Line = Said("class Node 1 { val: i32, next: Node* }", "ok class Node 1");
+/// A class of nodes with a pointer to another.
+pub(super) const NODE: Line = Said("class Node 1 { val: i32, next: Node* }", "ok class Node 1");
 
 // The key of the first class list, whose record has 4,316 bytes.
 const LIST_OF_NODE: (usize, &[&str]) = (

@@ -25,9 +25,18 @@ impl Source for LineFeeds {
     }
 }
 
-// What a run of so many line feeds answers over the host.
-fn fed(alloc: Global, count: usize, host: &mut MemHost) -> Result<Status, NoMemory> {
-    let words = words_of(alloc, &["run", "a.root"])?;
+static RUN: [&str; 2] = ["run", "a.root"];
+
+static IMPORT: [&str; 5] = ["import", "a.root", "T", "0", "x=x/I"];
+
+// What these words answer over the host, with so many line feeds.
+fn fed(
+    alloc: Global,
+    words: &[&str],
+    count: usize,
+    host: &mut MemHost,
+) -> Result<Status, NoMemory> {
+    let words = words_of(alloc, words)?;
     Ok(answer(alloc, &words, host, &mut LineFeeds { left: count }))
 }
 
@@ -41,7 +50,7 @@ fn is_empty_file(alloc: Global, image: &[u8]) -> bool {
 fn is_read_to_the_end(alloc: Global) -> bool {
     match host_of_copy(alloc, b"", &[]) {
         Ok(mut host) => {
-            fed(alloc, 67_108_864, &mut host) == Ok(Status::Done)
+            fed(alloc, &RUN, 67_108_864, &mut host) == Ok(Status::Done)
                 && host.said().is_empty()
                 && is_empty_file(alloc, host.image())
         }
@@ -54,10 +63,10 @@ fn the_longest_input(rt: HostRuntime) {
     assert!(rt; is_read_to_the_end(rt.alloc()));
 }
 
-fn is_refused(alloc: Global) -> bool {
+fn is_refused(alloc: Global, words: &[&str]) -> bool {
     match host_of_copy(alloc, b"", &[0]) {
         Ok(mut host) => {
-            fed(alloc, 67_108_865, &mut host) == Ok(Status::InputTooLong)
+            fed(alloc, words, 67_108_865, &mut host) == Ok(Status::InputTooLong)
                 && host.image().is_empty()
                 && host.length().is_err()
         }
@@ -68,5 +77,6 @@ fn is_refused(alloc: Global) -> bool {
 // The host's first call would fail, and still does behind the run: no call came before it.
 #[test]
 fn an_input_that_is_too_long(rt: HostRuntime) {
-    assert!(rt; is_refused(rt.alloc()));
+    assert!(rt; is_refused(rt.alloc(), &RUN));
+    assert!(rt; is_refused(rt.alloc(), &IMPORT));
 }

@@ -20,7 +20,7 @@ struct Row {
 
 const WHOLE: usize = usize::MAX;
 
-static ROWS: [Row; 32] = [
+static ROWS: [Row; 30] = [
     Row {
         name: "one object",
         file: File::One,
@@ -224,32 +224,10 @@ static ROWS: [Row; 32] = [
         said: "",
     },
     Row {
-        name: "a key list past the end",
-        file: File::Empty,
-        length: WHOLE,
-        words: &[(174, 0x00001000)],
-        status: Status::BadFile {
-            place: 4096,
-            kind: FileFault::BadKeyList,
-        },
-        said: "",
-    },
-    Row {
         name: "a key list at the object, whose data give a count",
         file: File::One,
         length: WHOLE,
         words: &[(174, 0x000000D0)],
-        status: Status::BadFile {
-            place: 252,
-            kind: FileFault::BadKeyList,
-        },
-        said: "",
-    },
-    Row {
-        name: "a count that is too large",
-        file: File::Empty,
-        length: WHOLE,
-        words: &[(248, 0x7FFFFFFF)],
         status: Status::BadFile {
             place: 252,
             kind: FileFault::BadKeyList,
@@ -364,30 +342,6 @@ fn said_otherwise(alloc: Global) -> Option<&'static str> {
 #[test]
 fn rows(rt: HostRuntime) {
     assert_eq!(rt; said_otherwise(rt.alloc()), None);
-}
-
-// Whether a file of two objects that is cut there, before its END, is refused by its header alone.
-fn is_cut_refused_by(alloc: Global, words: &[&str], length: usize) -> bool {
-    let closed = Status::BadFile {
-        place: 12,
-        kind: FileFault::NotClosed,
-    };
-    match File::Two.image(alloc, length, &[]) {
-        Ok(image) => says(alloc, words, image, (closed, b"")),
-        Err(_) => false,
-    }
-}
-
-fn is_cut_refused(alloc: Global, length: usize) -> bool {
-    is_cut_refused_by(alloc, &WORDS, length)
-        && is_cut_refused_by(alloc, &["dump", "a.root"], length)
-}
-
-#[test]
-fn cuts(rt: HostRuntime) {
-    for length in 63..504 {
-        assert!(rt; is_cut_refused(rt.alloc(), length), "at {length}");
-    }
 }
 
 // The first call of the host that is told otherwise where it fails: five look at the file, and one says the text.

@@ -11,9 +11,9 @@ use std::alloc::Global;
 // A file before a run, or behind it: the front of one of the files, with some words written over.
 #[derive(Clone, Copy)]
 pub(super) struct Made {
-    file: File,
-    length: usize,
-    words: &'static [(usize, u32)],
+    pub(super) file: File,
+    pub(super) length: usize,
+    pub(super) words: &'static [(usize, u32)],
 }
 
 pub(super) const NOTHING: Made = Made {
@@ -32,7 +32,7 @@ pub(super) const ONE: Made = Made {
     ..NOTHING
 };
 
-const TWO: Made = Made {
+pub(super) const TWO: Made = Made {
     file: File::Two,
     ..NOTHING
 };
@@ -67,28 +67,6 @@ const ENDLESS: Made = Made {
     ..EMPTY
 };
 
-// The word of the key list at 208 is that of a gap of two bytes, of one of 2 ** 31, and of a record longer than its key's.
-const TWO_BYTES: Made = Made {
-    words: &[(208, 0xFFFF_FFFE)],
-    ..EMPTY
-};
-
-const TOO_LONG: Made = Made {
-    words: &[(208, 0x8000_0000)],
-    ..EMPTY
-};
-
-const LONGER: Made = Made {
-    words: &[(208, 0x0000_0030)],
-    ..EMPTY
-};
-
-// And of a gap as long as the key list.
-const GAP: Made = Made {
-    words: &[(208, 0xFFFF_FFD4)],
-    ..EMPTY
-};
-
 // Made and closed with the datime 5.
 const FIVE: Made = Made {
     words: &[(110, 5), (150, 5), (154, 5), (218, 5), (262, 5)],
@@ -112,7 +90,7 @@ struct Row {
     after: Made,
 }
 
-static ROWS: [Row; 23] = [
+static ROWS: [Row; 19] = [
     Row {
         name: "no bytes, no lines",
         datime: None,
@@ -208,51 +186,6 @@ static ROWS: [Row; 23] = [
         },
         said: "",
         after: ENDLESS,
-    },
-    Row {
-        name: "a gap of two bytes",
-        datime: None,
-        before: TWO_BYTES,
-        script: "ls\n",
-        status: Status::ReadOnly {
-            place: 208,
-            reason: Reason::NoChain,
-        },
-        said: "",
-        after: TWO_BYTES,
-    },
-    Row {
-        name: "a gap of 2 ** 31 bytes",
-        datime: None,
-        before: TOO_LONG,
-        script: "ls\n",
-        status: Status::ReadOnly {
-            place: 208,
-            reason: Reason::NoChain,
-        },
-        said: "",
-        after: TOO_LONG,
-    },
-    Row {
-        name: "a record whose length isn't its key's",
-        datime: None,
-        before: LONGER,
-        script: "ls\n",
-        status: Status::ReadOnly {
-            place: 208,
-            reason: Reason::NoChain,
-        },
-        said: "",
-        after: LONGER,
-    },
-    Row {
-        name: "a gap in place of the key list",
-        datime: None,
-        before: GAP,
-        script: "ls\n",
-        status: Status::Done,
-        said: "ok ls 0\n",
-        after: EMPTY,
     },
     Row {
         name: "one more object in a closed file",
@@ -398,56 +331,6 @@ fn ends_otherwise(alloc: Global) -> Option<&'static str> {
 #[test]
 fn rows(rt: HostRuntime) {
     assert_eq!(rt; ends_otherwise(rt.alloc()), None);
-}
-
-// Lengths, and the segment that isn't whole in a file of two objects that has fewer bytes: the first record, the objects, the key
-// list, the free record, and the word behind it.
-static SEGMENTS: [(usize, u64); 6] = [
-    (208, 100),
-    (268, 208),
-    (328, 268),
-    (452, 328),
-    (504, 452),
-    (508, 504),
-];
-
-// The place of the segment that isn't whole in so many bytes.
-fn broken_segment(length: usize) -> Option<u64> {
-    for (above, place) in &SEGMENTS {
-        if length < *above {
-            return Some(*place);
-        }
-    }
-    None
-}
-
-// Whether the file that is cut there is refused for that segment, and isn't written to.
-fn is_cut_refused(alloc: Global, length: usize, place: u64) -> Result<bool, NoMemory> {
-    let image = File::Two.image(alloc, length, &[])?;
-    let mut host = host_of_copy(alloc, image.as_slice(), &[])?;
-    let reason = Reason::NoChain;
-    let refused = ends_so(
-        alloc,
-        &WORDS,
-        &mut host,
-        b"ls\n",
-        (Status::ReadOnly { place, reason }, b""),
-    );
-    Ok(refused && host.image() == image.as_slice() && host.writes().is_empty())
-}
-
-fn is_refused_at(alloc: Global, length: usize) -> bool {
-    match broken_segment(length) {
-        Some(place) => matches!(is_cut_refused(alloc, length, place), Ok(true)),
-        None => false,
-    }
-}
-
-#[test]
-fn cuts(rt: HostRuntime) {
-    for length in 63..508 {
-        assert!(rt; is_refused_at(rt.alloc(), length), "at {length}");
-    }
 }
 
 const LETTERS: [u8; 256] = [b'x'; 256];

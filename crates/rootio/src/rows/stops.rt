@@ -1,4 +1,4 @@
-//! What a stop leaves of a run, and one whose calls fail.
+//! What a stop leaves of a run.
 use super::images::File;
 use super::runs::{ends_so, host_of_copy, ran};
 use crate::status::Status;
@@ -316,57 +316,3 @@ pub(super) const WORKED: &str =
 
 pub(super) const SAID: &str = "ok put s;1\nok put s;2\nok put s;3\nok ls 3\n\
     s;3 TObjString\ns;2 TObjString\ns;1 TObjString\n";
-
-// How the run ends where this call fails, and how many bytes it has said then. The empty file is measured and synced by 2 calls,
-// made by 6, written by 4 for each put and closed by 14; the others say the replies, of 11 bytes thrice and of 53, and the one that
-// fails says the half of its own.
-fn end_by(call: u64) -> (Status, usize) {
-    match call {
-        0..=11 => (Status::DiskFault, 0),
-        12 => (Status::SayFault, 5),
-        13..=16 => (Status::DiskFault, 11),
-        17 => (Status::SayFault, 16),
-        18..=21 => (Status::DiskFault, 22),
-        22 => (Status::SayFault, 27),
-        23 => (Status::SayFault, 59),
-        24..=37 => (Status::DiskFault, 86),
-        _ => (Status::Done, 86),
-    }
-}
-
-// Whether it has as many objects as were put before it ended so, and the one whose put was going on or not. A reply that can't be
-// said is one of a command that stands.
-fn holds(alloc: Global, image: &[u8], end: (Status, usize)) -> bool {
-    let (status, length) = end;
-    let put = (length / 11).min(3);
-    let least = match status {
-        Status::SayFault => (put + 1).min(3),
-        _ => put,
-    };
-    match objects_in(alloc, image) {
-        Some(objects) => least <= objects && objects <= put + 1,
-        None => false,
-    }
-}
-
-// Whether the worked run ends as it does where this call fails.
-fn ends_by(alloc: Global, host: &mut MemHost, call: u64) -> bool {
-    let (status, length) = end_by(call);
-    let said = SAID.as_bytes().get(..length).unwrap_or(b"none");
-    ends_so(alloc, &WORDS, host, WORKED.as_bytes(), (status, said))
-        && holds(alloc, host.image(), (status, length))
-}
-
-fn is_failing_told(alloc: Global, call: u64) -> bool {
-    match host_of_copy(alloc, b"", &[call]) {
-        Ok(mut host) => ends_by(alloc, &mut host, call),
-        Err(_) => false,
-    }
-}
-
-#[test]
-fn failing_calls(rt: HostRuntime) {
-    for call in 0..64 {
-        assert!(rt; is_failing_told(rt.alloc(), call), "call {call}");
-    }
-}

@@ -9,11 +9,11 @@ use rio_recover::{Recovered, recover};
 use std::alloc::Global;
 
 // A line of a script, its reply, what is listed of the file after it, and which classes are declared then.
-struct Step {
-    line: &'static str,
-    reply: &'static str,
-    listing: &'static str,
-    classes: &'static str,
+pub(super) struct Step {
+    pub(super) line: &'static str,
+    pub(super) reply: &'static str,
+    pub(super) listing: &'static str,
+    pub(super) classes: &'static str,
 }
 
 const HI: &str = "put s TObjString{TObject{fUniqueID: 0, fBits: 0}, fString: \"hi\"}\n";
@@ -412,7 +412,12 @@ fn is_prefix_at(
 }
 
 // The first moment and choice at which it is none.
-fn no_prefix(alloc: Global, host: &MemHost, steps: &[Step], closing: &[Step]) -> Option<(u64, u8)> {
+pub(super) fn no_prefix(
+    alloc: Global,
+    host: &MemHost,
+    steps: &[Step],
+    closing: &[Step],
+) -> Option<(u64, u8)> {
     for at in 0..host.moment().saturating_mul(25) {
         let (moment, choice) = (at / 25, (at % 25) as u8);
         if !is_prefix_at(alloc, host, moment, choice, steps, closing) {
@@ -513,11 +518,6 @@ fn fails_badly(alloc: Global, steps: &[Step]) -> Result<(Option<u64>, u64), NoMe
         }
     }
     Ok((Some(200), 200))
-}
-
-#[test]
-fn failing_calls(rt: HostRuntime) {
-    assert!(rt; matches!(fails_badly(rt.alloc(), &PUT_AGAIN), Ok((None, 30..))));
 }
 
 #[test]

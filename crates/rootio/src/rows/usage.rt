@@ -8,14 +8,13 @@ use std::alloc::Global;
 
 type Texts = &'static [&'static str];
 
-static NO_FORMS: [Texts; 58] = [
+static NO_FORMS: [Texts; 87] = [
     &[],
     &["ls"],
     &["ls", "-x"],
     &["ls", ""],
     &["ls", "a\tb"],
     &["ls", "-"],
-    &["gen", "a.root", "0"],
     &["ls", "a.root", "b"],
     &["LS", "a.root"],
     &["-ls", "a.root"],
@@ -67,6 +66,36 @@ static NO_FORMS: [Texts; 58] = [
     &["export", "a.root", "T;1"],
     &["export", "a.root", "T", "P#1"],
     &["EXPORT", "a.root", "T"],
+    &["import"],
+    &["import", "a.root"],
+    &["import", "a.root", "T"],
+    &["import", "a.root", "T", "1"],
+    &["import", "a.root", "T", "x=x/I"],
+    &["import", "a.root", "T", "1000001", "x=x/I"],
+    &["import", "a.root", "T", "01", "x=x/I"],
+    &["import", "a.root", "T", "-1", "x=x/I"],
+    &["import", "a.root", "T;1", "1", "x=x/I"],
+    &["import", "a.root", "", "1", "x=x/I"],
+    &["import", "a.root", "T", "1", "x=x"],
+    &["import", "a.root", "T", "1", "x=x/Q"],
+    &["import", "a.root", "T", "1", "x=x/I "],
+    &["import", "a.root", "T", "1", "x=x/I y=y/I"],
+    &["import", "a.root", "T", "1", "v=v[3]/I"],
+    &["import", "a.root", "T", "1", "n=n/I", "v=v[n]/F"],
+    &["import", "a.root", "T", "1", "o=class:P"],
+    &["import", "a.root", "T", "1", "x=x/I", "x=y/I"],
+    &["import", "a.root", "T", "1", "x=x/I", "y=x/I"],
+    &["import", "a.root", "T", "1", "-x=x/I"],
+    &["import", "-x", "T", "1", "x=x/I"],
+    &["IMPORT", "a.root", "T", "1", "x=x/I"],
+    &["gen"],
+    &["gen", "a.root"],
+    &["gen", "a.root", "0"],
+    &["gen", "a.root", "01"],
+    &["gen", "a.root", "-1"],
+    &["gen", "a.root", "1000001"],
+    &["gen", "a.root", "1", "1"],
+    &["GEN", "a.root", "1"],
 ];
 
 fn one_object(alloc: Global, failing: &[u64]) -> Result<MemHost, NoMemory> {

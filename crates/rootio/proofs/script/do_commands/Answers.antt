@@ -1,12 +1,13 @@
 use Rattle.std.proofs.lemmas.Result.{IfOk-from_err, err_from_is_err_and}
 use Rattle.rio_host.proofs.PiecesLaws.{grown_join}
 use Rattle.rio_machine.specs.declared.command.Outcome.{Outcome}
+use Rattle.rio_session.specs.declared.replies.Replies.TheVariants.{Printed}
 use Rattle.rootio.proofs.StatableCommands.{statable_at}
 use Rattle.rootio.proofs.{Doing.{all_done, cause_behind, does_next, leaves_open, nothing_yet, room_there, stops_there, unsaid_there}, Untouched.{any_join}}
 use Rattle.rootio.proofs.script.do_commands.Goals as goal
 
 pub loop-command-init : goal.loop-command-init
-loop-command-init g c = nothing_yet (g.H.Host.view c.args.host.now) c.args.session.now c.args.commands.now c.requires.ready c.requires.fresh
+loop-command-init g c = nothing_yet Printed (g.H.Host.view c.args.host.now) c.args.session.now c.args.commands.now c.requires.ready c.requires.fresh
 
 pub apply-requires : goal.apply-requires
 apply-requires g c = record {
@@ -17,7 +18,7 @@ apply-requires g c = record {
 
 pub loop-command-preserved : goal.loop-command-preserved
 loop-command-preserved g c =
-    does_next (g.H.Host.view c.args.host.now) (g.H.Host.view c.loop-command.host) (g.H.Host.view c.apply.new.host) c.args.session.now c.loop-command.session c.apply.new.self
+    does_next Printed (g.H.Host.view c.args.host.now) (g.H.Host.view c.loop-command.host) (g.H.Host.view c.apply.new.host) c.args.session.now c.loop-command.session c.apply.new.self
     c.args.commands.now c.loop-command.command-index c.command-item.result c.loop-command-test.true c.command-item.is c.loop-command.invariant c.in_ok-apply.field-0
     c.in_ok-apply.ensures.kept.done c.in_ok-apply.ensures.records c.in_ok-apply.ensures.marks c.in_ok-apply.ensures.kept.ready c.in_ok-apply.ensures.kept.failed c.in_ok-apply.ensures.file.told c.in_ok-apply.ensures.text.said c.in_ok-apply.ensures.kept.cause
 
@@ -26,21 +27,21 @@ returns-in_err-apply g c =
     let p = err_from_is_err_and c.from_residual.result c.from_residual.ensures.1 in
     record {
       stops = λ file text m stands.
-          stops_there (g.H.Host.view c.args.host.now) (g.H.Host.view c.loop-command.host) (g.H.Host.view c.apply.new.host) c.args.session.now c.loop-command.session c.apply.new.self
+          stops_there Printed (g.H.Host.view c.args.host.now) (g.H.Host.view c.loop-command.host) (g.H.Host.view c.apply.new.host) c.args.session.now c.loop-command.session c.apply.new.self
           c.args.commands.now c.loop-command.command-index c.command-item.result c.loop-command-test.true c.command-item.is c.loop-command.invariant
           c.in_err-apply.ensures.file.any_moment c.in_err-apply.ensures.marks file text m stands;
       unclosed = rw p.1 (λ m text stands.
-          leaves_open (g.H.Host.view c.args.host.now) (g.H.Host.view c.loop-command.host) (g.H.Host.view c.apply.new.host) c.args.session.now c.loop-command.session
+          leaves_open Printed (g.H.Host.view c.args.host.now) (g.H.Host.view c.loop-command.host) (g.H.Host.view c.apply.new.host) c.args.session.now c.loop-command.session
           c.args.commands.now c.loop-command.command-index c.command-item.result c.loop-command.invariant (g.met.H.Host.lawful c.apply.new.host)
           c.in_err-apply.ensures.file.any_moment m text stands);
       unsaid = rw (p.1, p.2) (
-          unsaid_there (g.H.Host.view c.args.host.now) (g.H.Host.view c.loop-command.host) (g.H.Host.view c.apply.new.host) c.args.session.now c.loop-command.session c.apply.new.self
+          unsaid_there Printed (g.H.Host.view c.args.host.now) (g.H.Host.view c.loop-command.host) (g.H.Host.view c.apply.new.host) c.args.session.now c.loop-command.session c.apply.new.self
           c.args.commands.now c.loop-command.command-index c.command-item.result c.loop-command-test.true c.command-item.is c.loop-command.invariant c.in_err-apply.field-0.0
           c.in_err-apply.ensures.file.unsaid c.in_err-apply.ensures.text.part c.in_err-apply.ensures.marks);
-      room = λ m text stands none room.
-          room_there (g.H.Host.view c.args.host.now) (g.H.Host.view c.loop-command.host) (g.H.Host.view c.apply.new.host) c.args.session.now c.loop-command.session c.apply.new.self
+      room = λ m text stands none.
+          room_there Printed (g.H.Host.view c.args.host.now) (g.H.Host.view c.loop-command.host) (g.H.Host.view c.apply.new.host) c.args.session.now c.loop-command.session c.apply.new.self
           c.args.commands.now c.loop-command.command-index c.command-item.result c.loop-command-test.true c.command-item.is c.loop-command.invariant c.in_err-apply.field-0.0
-          c.in_err-apply.ensures.text.silent c.in_err-apply.ensures.text.lacks c.in_err-apply.ensures.text.part c.in_err-apply.ensures.marks m text stands none room;
+          c.in_err-apply.ensures.text.silent c.in_err-apply.ensures.text.lacks c.in_err-apply.ensures.text.part c.in_err-apply.ensures.marks m text stands none;
       done = IfOk-from_err c.from_residual.result _ c.from_residual.ensures.0;
       ready = IfOk-from_err c.from_residual.result _ c.from_residual.ensures.0;
       fresh = IfOk-from_err c.from_residual.result _ c.from_residual.ensures.0;
@@ -57,11 +58,11 @@ returns g c =
     record {
       stops = λ file text m stands. (doing.sofar m text stands).time file;
       done = λ m text stands.
-          all_done (g.H.Host.view c.args.host.now) (g.H.Host.view c.loop-command.host) c.args.session.now c.loop-command.session c.args.commands.now c.loop-command.command-index
+          all_done Printed (g.H.Host.view c.args.host.now) (g.H.Host.view c.loop-command.host) c.args.session.now c.loop-command.session c.args.commands.now c.loop-command.command-index
           c.loop-command-test.false doing m text stands;
-      room = λ m text stands none room said told k command there long.
-          (all_done (g.H.Host.view c.args.host.now) (g.H.Host.view c.loop-command.host) c.args.session.now c.loop-command.session c.args.commands.now c.loop-command.command-index
-          c.loop-command-test.false doing m text stands).room none room k command there;
+      room = λ m text stands none said told k command there long.
+          (all_done Printed (g.H.Host.view c.args.host.now) (g.H.Host.view c.loop-command.host) c.args.session.now c.loop-command.session c.args.commands.now c.loop-command.command-index
+          c.loop-command-test.false doing m text stands).room none k command there;
       unclosed = tt;
       unsaid = λ e. absurd cc;
       ready = doing.ready;
