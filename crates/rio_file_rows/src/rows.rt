@@ -11,5 +11,7 @@ mod recovery;
 mod reopened;
 mod scripts;
 mod sessions;
+mod tree_limits;
 mod tree_scripts;
 mod trees;
+mod unfit;

@@ -1,26 +1,28 @@
 //! Scripts are done on files `a.root`, in memory.
 ghost use Rattle.std.specs.Prelude.{◌≡◌, true, false, IfOk, OnOk};
 ghost use Rattle.std.specs.List.{list_all};
-ghost use Rattle.rio_host.specs.MemHost.{view_of};
 ghost use Rattle.rio_step.specs.Statable.{is_statable};
 ghost use Rattle.rio_session.specs.Session.{IsReady};
 
 use super::reopened::host_of;
 use super::sessions::{close, open};
 use rio_cmd::read_script;
-use rio_host::{MemHost, Remains};
+use rio_host::{Host, MemHost, Remains};
 use rio_machine::{Command, Commands};
 use rio_num::{Bytes, NoMemory};
 use rio_session::{Session, SessionFault};
 use rio_step::scripts_are_statable;
 use std::alloc::Global;
 
+// No script is longer.
+const INPUT_LIMIT: usize = 67_108_864;
+
 // The commands of a script.
 fn commands_of(alloc: Global, script: &[u8]) -> Result<Commands, NoMemory>
     ensures { IfOk result (λ commands. list_all is_statable commands ≡ true) }
 {
     scripts_are_statable();
-    if script.len() > 1_000_000 {
+    if script.len() > INPUT_LIMIT {
         return Err(NoMemory);
     }
     match read_script(alloc, script) {
@@ -30,16 +32,16 @@ fn commands_of(alloc: Global, script: &[u8]) -> Result<Commands, NoMemory>
 }
 
 // Does the commands, one after the other.
-fn do_all(
+fn do_all<H: Host>(
     session: &mut Session,
-    host: &mut MemHost,
+    host: &mut H,
     commands: &[Command],
 ) -> Result<(), SessionFault>
     requires fresh { session.old.failed ≡ false }
-    requires ready { IsReady (view_of host.old) session.old }
+    requires ready { IsReady (H.view host.old) session.old }
     requires statable { list_all is_statable commands.now ≡ true }
     ensures fresh { OnOk result (session.new.failed ≡ false) }
-    ensures ready { OnOk result (IsReady (view_of host.new) session.new) }
+    ensures ready { OnOk result (IsReady (H.view host.new) session.new) }
 {
     for command in commands {
         session.apply(host, command)?;
@@ -48,18 +50,30 @@ fn do_all(
 }
 
 // Does the commands, and closes the file where it isn't left open.
-fn do_script(
+fn do_script<H: Host>(
     mut session: Session,
-    host: &mut MemHost,
+    host: &mut H,
     commands: &[Command],
     closes: bool,
 ) -> Result<(), SessionFault>
     requires fresh { session.failed ≡ false }
-    requires ready { IsReady (view_of host.old) session }
+    requires ready { IsReady (H.view host.old) session }
     requires statable { list_all is_statable commands.now ≡ true }
 {
     do_all(&mut session, host, commands)?;
     if closes { close(session, host) } else { Ok(()) }
+}
+
+// Opens the host's file, does a script, and closes the file where it isn't left open.
+pub(super) fn run_on<H: Host>(
+    alloc: Global,
+    host: &mut H,
+    script: &[u8],
+    closes: bool,
+) -> Result<(), SessionFault> {
+    let commands = commands_of(alloc, script)?;
+    let session = open(alloc, host)?;
+    do_script(session, host, commands.as_slice(), closes)
 }
 
 fn run_by(
@@ -68,10 +82,8 @@ fn run_by(
     script: &[u8],
     closes: bool,
 ) -> Result<MemHost, SessionFault> {
-    let commands = commands_of(alloc, script)?;
     let mut host = host_of(alloc, image);
-    let session = open(alloc, &mut host)?;
-    do_script(session, &mut host, commands.as_slice(), closes)?;
+    run_on(alloc, &mut host, script, closes)?;
     Ok(host)
 }
 

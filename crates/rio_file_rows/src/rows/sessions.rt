@@ -5,7 +5,7 @@ ghost use Rattle.rio_step.specs.Statable.{IsStatable};
 ghost use Rattle.rio_session.specs.Session.{IsReady};
 
 use super::parts::{END, FIRST, FREE, FRONT, KEY_LIST};
-use rio_host::MemHost;
+use rio_host::{Host, MemHost};
 use rio_machine::Command;
 use rio_num::{Bytes, Name, NoMemory, Numbers};
 use rio_session::{OpenFault, Session, SessionFault};
@@ -82,9 +82,9 @@ fn act_thrice(
     act(session, host, &Command::Ls)
 }
 
-pub(super) fn close(session: Session, host: &mut MemHost) -> Result<(), SessionFault>
+pub(super) fn close<H: Host>(session: Session, host: &mut H) -> Result<(), SessionFault>
     requires fresh { session.failed ≡ false }
-    requires ready { IsReady (view_of host.old) session }
+    requires ready { IsReady (H.view host.old) session }
 {
     session.close(host)
 }
@@ -105,9 +105,9 @@ fn act_and_close(
     close(session, host)
 }
 
-pub(super) fn open(alloc: Global, host: &mut MemHost) -> Result<Session, SessionFault>
+pub(super) fn open<H: Host>(alloc: Global, host: &mut H) -> Result<Session, SessionFault>
     ensures fresh { IfOk result (λ session. session.failed ≡ false) }
-    ensures ready { IfOk result (IsReady (view_of host.new)) }
+    ensures ready { IfOk result (IsReady (H.view host.new)) }
 {
     match Session::open(alloc, host, b"a.root", 1) {
         Ok(session) => Ok(session),

@@ -407,7 +407,7 @@ fn keeps_the_header_of_the_greatest_cycle(rt: HostRuntime) {
 // ---- headers that represent no tree
 
 // Words of the file with the tree, whose header at 340 represents none then.
-static BAD: [&[(usize, u32)]; 14] = [
+static BAD: [&[(usize, u32)]; 17] = [
     // The entries of the tree, of the branch, and of both.
     &[(404, 4)],
     &[(493, 4)],
@@ -426,6 +426,11 @@ static BAD: [&[(usize, u32)]; 14] = [
     // Of the basket at 272 the number of its entries, and the end of the last.
     &[(320, 1)],
     &[(324, 66)],
+    // The entry at 208 has three bytes, or five.
+    &[(260, 60)],
+    &[(260, 62)],
+    // The class of the leaf is `TLeafQ`.
+    &[(557, 0x6561_6651)],
     // The basket at 208 is named twice.
     &[
         (404, 2),

@@ -12,11 +12,11 @@ statable_at cs k c within is all = ap is_statable is ∙ by (is_statable (get_or
     by false e = let none : list_all is_statable cs ≡ false = list_all_at is_statable cs k c within e in absurd cc
 
 pub apply-requires-clause-statable : goal.apply-requires-clause-statable
-apply-requires-clause-statable c =
+apply-requires-clause-statable g c =
     statable_at c.args.commands.now c.loop-command.command-index c.command-item.result c.loop-command-test.true c.command-item.is c.requires.statable
 
 pub loop-command-init : goal.loop-command-init
-loop-command-init c = (c.requires.fresh, c.requires.ready)
+loop-command-init g c = (c.requires.fresh, c.requires.ready)
 
 pub loop-command-preserved : goal.loop-command-preserved
-loop-command-preserved c = (c.in_ok-apply.ensures.kept.failed, c.in_ok-apply.ensures.kept.ready)
+loop-command-preserved g c = (c.in_ok-apply.ensures.kept.failed, c.in_ok-apply.ensures.kept.ready)
