@@ -297,6 +297,118 @@ run_near
 check "a file near the limit, once more" $? 7 "" "rootio: read only at 0: NoRoom"
 rm near.root
 
+# Full: in a file of nearly 2 GB (119 objects of 16,777,216 bytes, which are holes of a sparse file, and one of the rest) the records
+# end 60,000 bytes before the last place that they may end at. `z N` puts an object in a record of N bytes, `row N` fills T with a text
+# of N letters, and `-` deletes `z`; behind `=` stands the reply. In the first script four bytes lack for a put (60 bytes, and 6,216
+# that a close writes then) and for a tree (4,392 and 6,220), and then they are there. In the second they lack for a row whose basket of
+# 16,072 is put (and 22,696), for a tree and a save with a header of 344 (and 6,220), and for a row that puts nothing (and 6,660).
+mkdir full && cd full && "$program" run a.root 1 </dev/null >../said 2>../told
+python3 - <<'P'
+import struct
+END, RECORD = 1999939996, 16777256
+front = open("a.root", "rb").read(208)
+
+
+def near(path):
+    with open(path, "wb") as file:
+        file.write(front)
+        place, cycle = 208, 0
+        while place < END:
+            length, cycle = min(RECORD, END - place), cycle + 1
+            key = struct.pack(">iHiIHHII", length, 4, length - 40, 1, 40, cycle, place, 100) + b"\x0aTObjString\x01o\0"
+            text = struct.pack(">IHHII", length - 44 | 1 << 30, 1, 1, 0, 0) + b"\xff" + struct.pack(">I", length - 61)
+            file.seek(place)
+            file.write(key + text)
+            place += length
+        file.truncate(END + 4)
+
+
+def lines_of(line):
+    line, _, reply = line.partition(" = ")
+    word, _, number = line.partition(" ")
+    if word == "z":
+        return 'put z TObjString{TObject{fUniqueID: 0, fBits: 0}, fString: "%s"}' % ("x" * (int(number) - 61)), "ok put z;1"
+    if word == "row":
+        return 'fill T ["%s"]' % ("x" * int(number)), reply
+    if word == "-":
+        return "delete z;1", "ok delete z;1"
+    return line, reply
+
+
+def script(name, text):
+    near(name + ".root")
+    lines = [lines_of(line) for line in text.strip().split("\n")]
+    open(name, "w").write("".join(line + "\n" for line, _ in lines))
+    open(name + ".said", "w").write("".join(reply + "\n" for _, reply in lines))
+
+
+script("puts", """
+z 53728
+put s TObjString{TObject{fUniqueID: 0, fBits: 0}, fString: "hi"} = no 19 Full 1999993724 60
+class A 1 { x: i32 } = no 19 Full 1999993724 4204
+tree T x=x/I = no 19 Full 1999993724 4392
+-
+z 53724
+put s TObjString{TObject{fUniqueID: 0, fBits: 0}, fString: "hi"} = ok put s;1
+delete s;1 = ok delete s;1
+-
+z 49392
+tree T x=x/I = no 19 Full 1999989388 4392
+-
+z 49388
+tree T x=x/I = ok tree T;1
+fill T [1] = no 19 Full 1999993776 0
+save T = no 19 Full 1999993776 344
+""")
+script("rows", """
+tree T x=x/C = ok tree T;1
+row 15995 = ok fill T 0
+z 16844
+row 15996 = no 19 Full 1999961232 16072
+-
+z 16840
+row 15996 = ok fill T 1
+delete T;1 = ok delete T;1
+-
+z 49392
+tree T x=x/I = no 19 Full 1999993436 344
+-
+z 49388
+tree T x=x/I = ok tree T;1
+delete T;1 = ok delete T;1
+-
+tree T x=x/I = ok tree T;1
+z 49048
+save T = no 19 Full 1999993436 344
+fill T [1] = no 19 Full 1999993436 0
+-
+z 49044
+save T = ok save T;2 0
+save T = ok save T;3 0
+-
+z 48952
+fill T [1] = no 19 Full 1999993340 0
+-
+z 48948
+fill T [1] = ok fill T 0
+save T = ok save T;4 1
+""")
+P
+cd ..
+for name in puts rows; do
+    "$program" run full/$name.root 1 <full/$name >said 2>told
+    check "Full, $name" $? 0 "$(cat full/$name.said)" ""
+    [ "$(wc -c <full/$name.root)" -le 2000000000 ] || fail "Full, $name: $(wc -c <full/$name.root) bytes after the close"
+done
+"$program" ls full/puts.root </dev/null >said 2>told
+check "Full, puts: its keys" $? 0 "T;1 TTree
+$(seq 120 -1 1 | sed 's/.*/o;& TObjString/')
+z;1 TObjString" ""
+"$program" scan full/rows.root T </dev/null >said 2>told
+check "Full, rows: the row that was saved" $? 0 "ok scan T 1
+0 [1]" ""
+rm full/*.root
+
 # An empty script leaves the file of 308 bytes that an empty file is, and one put the stored file, byte for byte.
 mkdir empty && cd empty && "$program" run a.root 1 </dev/null >../said 2>../told
 status=$?
