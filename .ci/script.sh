@@ -99,6 +99,24 @@ t;1 TObjString' ""
 "$program" ls less.root </dev/null >said 2>told
 check "ls after a delete" $? 0 "$keys" ""
 
+# A batch stores all its objects, or none of them.
+cp less.root both.root
+printf '%s\n' "batch { u $value \"a\"}, u $value \"b\"}, s $value \"c\"} }" "batch { v $value \"d\"}, w 3 }" "get u;1" "ls" >both
+"$program" run both.root <both >said 2>told
+keys_of_both='s;3 TObjString
+s;2 TObjString
+s;1 TObjString
+t;1 TObjString
+u;2 TObjString
+u;1 TObjString'
+check "a batch" $? 0 "ok batch u;1 u;2 s;3
+no 11 DoesNotFit
+ok get u;1 TObjString#1{TObject#1{fUniqueID: 0, fBits: 0}, fString: \"a\"}
+ok ls 6
+$keys_of_both" ""
+"$program" ls both.root </dev/null >said 2>told
+check "ls after a batch" $? 0 "$keys_of_both" ""
+
 # A class is declared, and then a version more: each object stays as it was put.
 printf '%s\n' "class N 1 { v: i32, next: N* }" "put n N{v: 1, next: @0=N{v: 2, next: @0}}" "class N 1 { v: i32 }" "class N 2 { v: i32 }" \
     "put n N{v: 4}" "get n;1" "get n" "get n;1 as 2" "get n as 1" "get n as 3" >classes

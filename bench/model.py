@@ -1,8 +1,11 @@
-"""What a script of put, delete, class, tree, fill, save, scan, get and ls makes of a file, and what is printed for it: written from the
+"""What a script of put, batch, delete, class, tree, fill, save, scan, get and ls makes of a file, and what is printed for it: written from the
 rules in docs/commands.md alone, to compare runs with. The scripts beside it import it."""
 import random, re
 
-PUT = 'put {} TObjString{{TObject{{fUniqueID: 0, fBits: 0}}, fString: "{}"}}'
+TEXT = 'TObjString{{TObject{{fUniqueID: 0, fBits: 0}}, fString: "{}"}}'
+PUT = "put {} " + TEXT
+# a put of a batch
+ITEM = re.compile(r'(\w+) (TObjString\{TObject\{fUniqueID: 0, fBits: 0\}, fString: "[a-z]*"\}|\w+\{a: -?\d+\})')
 
 
 def branches_of(name):
@@ -92,6 +95,8 @@ class Model:
         verb, *rest = line.split(" ", 2)
         if verb == "put":
             return self.put(*rest)
+        if verb == "batch":
+            return self.put_all(ITEM.findall(line))
         if verb == "class":
             return self.declare(rest[0], int(rest[1].split(" ")[0]))
         if verb == "tree":
@@ -120,21 +125,34 @@ class Model:
                 del self.objects[name]
         return f"ok delete {name};{cycle}"
 
-    def put(self, name, value):
+    def refusal(self, name, value):
+        """Returns why a put is refused, or nothing."""
         if name in self.trees:
             return "no 5 NameIsTree"
+        kind = value.split("{")[0]
+        return "" if kind == "TObjString" or self.newest(kind) else "no 8 NoSuchClass"
+
+    def store(self, name, value):
+        """Stores an object and returns its item."""
         kind = value.split("{")[0]
         if kind == "TObjString":
             text = value.split('"')[1]
             shown = f'TObjString#1{{TObject#1{{fUniqueID: 0, fBits: 0}}, fString: "{text}"}}'
-        elif self.newest(kind):
-            shown = f"{kind}#{self.newest(kind)}{{a: {value.split('a: ')[1].split('}')[0]}}}"
         else:
-            return "no 8 NoSuchClass"
+            shown = f"{kind}#{self.newest(kind)}{{a: {value.split('a: ')[1].split('}')[0]}}}"
         cycles = self.objects.setdefault(name, {})
         cycle = max(cycles, default=0) + 1
         cycles[cycle] = (kind, shown)
-        return f"ok put {name};{cycle}"
+        return f"{name};{cycle}"
+
+    def put(self, name, value):
+        return self.refusal(name, value) or f"ok put {self.store(name, value)}"
+
+    def put_all(self, puts):
+        refusals = [it for it in (self.refusal(*put) for put in puts) if it]
+        if refusals:
+            return min(refusals, key=lambda it: int(it.split()[1]))
+        return " ".join(["ok batch", *(self.store(*put) for put in puts)])
 
     def declare(self, name, version):
         if (name, version) in self.classes:
@@ -184,12 +202,24 @@ def random_row(name):
     return f"[{branches.split(':')[1]}{{a: {number}}}]"
 
 
+def random_batch(names, classes, trees):
+    """Returns a batch of a few puts on these names, now and then one with a tree's name."""
+    puts = []
+    for _ in range(random.randint(1, 5)):
+        name = f"n{random.randrange(names)}" if random.random() < 0.97 else f"t{random.randrange(trees)}"
+        value = TEXT.format("x" * random.randrange(120)) if random.random() < 0.9 else f"Q{random.randrange(classes)}{{a: {random.randrange(-9, 9)}}}"
+        puts.append(f"{name} {value}")
+    return f"batch {{ {', '.join(puts)} }}"
+
+
 def random_line(model, names=60, classes=12, trees=8):
     """Returns a command on one of so many names. Most deletes are of what the model has; without a model they are of any cycle below 6."""
     dice, name, tree = random.random(), f"n{random.randrange(names)}", f"t{random.randrange(trees)}"
     if random.random() < 0.02:
         # what is of the other kind
         name, tree = tree, name
+    if dice < 0.08:
+        return random_batch(names, classes, trees)
     if dice < 0.35:
         return PUT.format(name, "x" * random.randrange(120))
     if dice < 0.42:

@@ -17,6 +17,8 @@ pub mod OneChain
 pub mod Placed
 pub mod PutChain
 pub mod Puts
+pub mod PutsEnds
+pub mod PutsNoted
 pub mod Records
 pub mod Releases
 pub mod ShortKeys

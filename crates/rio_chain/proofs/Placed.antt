@@ -6,13 +6,9 @@ use Rattle.rio_free.specs.{Gaps.{HasGapFor, best_gap, gap_of, left_from, taken},
 use Rattle.rio_free.proofs.Best.{best_is_gap}
 use Rattle.rio_chain.specs.declared.segment.Segment.{Segment, TheVariants.{Record, Gap}}
 use Rattle.rio_chain.specs.Adjoining.{AreAdjacent, AreGapsApart, AreSegments, BeginsAt, BeginsWithRecord, segment_length, segments_end}
-use Rattle.rio_chain.specs.Placing.{HasRest, IsPlaceFor, file_end, gaps_in, record_count, rest_of_gap, with_segment}
+use Rattle.rio_chain.specs.Placing.{HasRest, IsFree, IsPlaceFor, file_end, gaps_in, record_count, rest_of_gap, with_segment}
 
 -- ---- a place that can be taken
-
--- a gap for n bytes, or END
-abbrev pub IsFree : List Segment → ℕ → ℕ → Type 0
-IsFree segments n place = HasGapFor (gaps_in segments) place n ⊎ (place ≡ file_end segments)
 
 pub place_free : (segments : List Segment) (n place : ℕ) → IsPlaceFor segments n place → IsFree segments n place
 place_free segments n place is = ⊎_elim (λ rule. by (best_gap n (gaps_in segments)) refl (rule)) (λ end. inr end) is

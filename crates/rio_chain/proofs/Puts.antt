@@ -1,12 +1,12 @@
--- What a put makes of a chain: at END, and in a gap.
+-- What a put of records one behind the other makes of a chain: at END, and in a gap.
 use Rattle.std.proofs.Common.{◌≡◌, ◌⊎◌, inl, inr, ⊎_elim, ℕ, zero, suc, ◌+◌, ◌-◌, ◌%◌, ◌^◌, ◌<◌, ◌≤◌, List, [], ◌∷◌, ◌++◌, length, length-append, Some, refl, sym, ap, subst, ◌∙◌, arith}
 use Rattle.std.proofs.lemmas.List.{append-nil}
 use Rattle.std.specs.List.{slice_get}
 use Rattle.byteorder.specs.{Endian.{big_bytes}, Numbers.{length-bytes_high_first}}
-use Rattle.rio_host.specs.{Image.{Has, Torn}, Host.{View}}
+use Rattle.rio_host.specs.Image.{Has, Torn}
 use Rattle.rio_host.proofs.Images.{has_keeps, has_front, has_back, slice_get-append_cases}
-use Rattle.rio_chain.specs.Segments.{Link, RecordAt, GapAt, end_from, chain_end, HoldsEnd, HoldsRecord, IsChain, IsRecord}
-use Rattle.rio_chain.specs.Stops.{BodyThenWord, IsBodyBehind, IsEither, KeepsFront}
+use Rattle.rio_chain.specs.{Batches.{AreRecordsFrom}, Segments.{Link, RecordAt, GapAt, end_from, chain_end, HoldsEnd, IsChain}}
+use Rattle.rio_chain.specs.Stops.{BodyThenWord, KeepsFront}
 use Rattle.rio_chain.proofs.Words.{word_keeps, word_of_bytes, word_within}
 use Rattle.rio_chain.proofs.Chains.{BeginsRecord, Parts, PlainGap, PlainLinks, Spaced, chain_of, end-append, end-le, end_keeps, parts_of, plain-append, plain_cut, plain_keeps, spaced_as, spaced_back}
 
@@ -17,19 +17,51 @@ has_join file place one two first second i x at = ⊎_elim
     (λ there. subst (λ (k : ℕ). slice_get file k ≡ Some x) (let e : place + length one + there.0 ≡ place + i = omega (arith, there.1) in e) (second there.0 x there.2))
     (slice_get-append_cases one two i x at)
 
--- the bytes of a record behind its word, and what is written behind them
-pub record Tail (bytes tail more : List ℕ) : Type 0 where
+-- the bytes of records behind the first word, and what is written behind them
+pub record Tail (word : ℕ) (bytes tail more : List ℕ) : Type 0 where
   pub others : List ℕ
-  pub record_is : bytes ≡ big_bytes 4 (length bytes) ++ others
+  pub records_are : bytes ≡ big_bytes 4 word ++ others
   pub tail_is : tail ≡ others ++ more
 
 length-word : (n : ℕ) → length (big_bytes 4 n) ≡ 4
 length-word n = length-bytes_high_first 4 n
 
--- the record stands where its tail and its word were written
-module _ (file : List ℕ) (place : ℕ) (bytes tail more image : List ℕ) (is : Tail bytes tail more) (put : BodyThenWord file place tail (big_bytes 4 (length bytes)) image) where
+-- ---- records one behind the other
+
+unfoldable pub joined : List (List ℕ) → List ℕ
+joined [] = []
+joined (bytes ∷ records) = bytes ++ joined records
+
+abbrev pub links_from : ℕ → List (List ℕ) → List Link
+links_from place [] = []
+links_from place (bytes ∷ records) = RecordAt place bytes ∷ links_from (place + length bytes) records
+
+pub joined_end : (place : ℕ) (records : List (List ℕ)) → end_from place (links_from place records) ≡ place + length (joined records)
+unfolding joined
+joined_end place [] = omega arith
+joined_end place (bytes ∷ records) = omega (arith, joined_end (place + length bytes) records, length-append bytes (joined records))
+
+pub joined_aligned : (place : ℕ) (records : List (List ℕ)) → AreRecordsFrom place records → length (joined records) % 4 ≡ 0
+unfolding joined
+joined_aligned place [] whole = refl
+joined_aligned place (bytes ∷ records) whole = omega (arith, whole.0.aligned, joined_aligned (place + length bytes) records whole.1, length-append bytes (joined records))
+
+joined_there : (image : List ℕ) (place : ℕ) (records : List (List ℕ)) → 100 < place → Has image place (joined records) → AreRecordsFrom place records → PlainLinks image place (links_from place records)
+unfolding joined
+joined_there image place [] later has whole = tt
+joined_there image place (bytes ∷ records) later has whole = (
+  (refl, record { there = has_front image place bytes (joined records) has; whole = whole.0; first = λ is'. absurd (omega (arith, is', later)) }),
+  joined_there image (place + length bytes) records (omega (arith, later)) (has_back image place (place + length bytes) bytes (joined records) (omega arith) has) whole.1,
+)
+
+joined_spaced : (place : ℕ) (records : List (List ℕ)) (back : List Link) → Spaced back → Spaced (links_from place records ++ back)
+joined_spaced place [] back spaced = spaced
+joined_spaced place (bytes ∷ records) back spaced = joined_spaced (place + length bytes) records back spaced
+
+-- the records stand where their tail and the first word were written
+module _ (file : List ℕ) (place word : ℕ) (bytes tail more image : List ℕ) (is : Tail word bytes tail more) (put : BodyThenWord file place tail (big_bytes 4 word) image) where
   size : length bytes ≡ 4 + length is.others
-  size = omega (arith, ap length is.record_is, length-append (big_bytes 4 (length bytes)) is.others, length-word (length bytes))
+  size = omega (arith, ap length is.records_are, length-append (big_bytes 4 word) is.others, length-word word)
 
   pub tail_size : length tail + 4 ≡ length bytes + length more
   tail_size = omega (arith, size, ap length is.tail_is, length-append is.others more)
@@ -38,25 +70,22 @@ module _ (file : List ℕ) (place : ℕ) (bytes tail more image : List ℕ) (is 
   pub keeps_out : (i x : ℕ) → (i < place) ⊎ (place + length bytes + length more ≤ i) → slice_get file i ≡ Some x → slice_get image i ≡ Some x
   keeps_out i x out was = ⊎_elim
       (λ low. put.2.outside i x (inl low) (put.1.outside i x (inl (omega (arith, low))) was))
-      (λ high. put.2.outside i x (inr (omega (arith, high, size, length-word (length bytes)))) (put.1.outside i x (inr (omega (arith, high, tail_size))) was))
+      (λ high. put.2.outside i x (inr (omega (arith, high, size, length-word word))) (put.1.outside i x (inr (omega (arith, high, tail_size))) was))
       out
 
   tail_there : Has image (place + 4) (is.others ++ more)
-  tail_there = subst (Has image (place + 4)) is.tail_is (has_keeps put.0 image (place + 4) tail (λ i x low high was. put.2.outside i x (inr (omega (arith, low, length-word (length bytes)))) was) put.1.written)
+  tail_there = subst (Has image (place + 4)) is.tail_is (has_keeps put.0 image (place + 4) tail (λ i x low high was. put.2.outside i x (inr (omega (arith, low, length-word word))) was) put.1.written)
 
   pub bytes_there : Has image place bytes
-  bytes_there = subst (Has image place) (sym is.record_is)
-      (has_join image place (big_bytes 4 (length bytes)) is.others put.2.written
-      (subst (λ (p : ℕ). Has image p is.others) (let e : place + 4 ≡ place + length (big_bytes 4 (length bytes)) = omega (arith, length-word (length bytes)) in e) (has_front image (place + 4) is.others more tail_there)))
+  bytes_there = subst (Has image place) (sym is.records_are)
+      (has_join image place (big_bytes 4 word) is.others put.2.written
+      (subst (λ (p : ℕ). Has image p is.others) (let e : place + 4 ≡ place + length (big_bytes 4 word) = omega (arith, length-word word) in e) (has_front image (place + 4) is.others more tail_there)))
 
   pub more_there : Has image (place + length bytes) more
   more_there = has_back image (place + 4) (place + length bytes) is.others more (omega (arith, size)) tail_there
 
   pub put_front : 100 < place → KeepsFront file image
   put_front later i x low was = keeps_out i x (inl (omega (arith, low, later))) was
-
-  pub record_there : 100 < place → IsRecord place bytes → HoldsRecord image place bytes
-  record_there later whole = record { there = bytes_there; whole = whole; first = λ is'. absurd (omega (arith, is', later)) }
 
 -- ---- at END
 
@@ -81,26 +110,19 @@ module _ (links : List Link) (file : List ℕ) (chain : IsChain links file) (end
     ends = end_keeps file image (chain_end links) (λ i x low high was. torn.outside i x (inl (omega (arith, high, ends))) was) parts.ends;
   })
 
-  pub end_put : (bytes tail image : List ℕ) → IsRecord end bytes → Tail bytes tail (big_bytes 4 0) → BodyThenWord file end tail (big_bytes 4 (length bytes)) image → IsChain (links ++ RecordAt end bytes ∷ []) image
-  end_put bytes tail image whole is put = chain_of (links ++ RecordAt end bytes ∷ []) image (record {
-    plain = plain-append image 100 links (RecordAt end bytes ∷ []) kept (subst (λ (p : ℕ). PlainLinks image p (RecordAt end bytes ∷ [])) ends ((refl, there), tt));
-    spaced = spaced_as links [] (RecordAt end bytes ∷ []) (subst Spaced (sym (append-nil links)) parts.spaced) (λ none. absurd none) tt;
-    ends = subst (HoldsEnd image) (let e : end + length bytes ≡ chain_end (links ++ RecordAt end bytes ∷ []) = ap (λ (p : ℕ). p + length bytes) ends ∙ sym (end-append 100 links (RecordAt end bytes ∷ [])) in e)
-        (record { later = omega (arith, end_later); zero_word = word_of_bytes image (end + length bytes) 0 (omega arith) (more_there file end bytes tail (big_bytes 4 0) image is put) });
-  })
+  pub end_put : (records : List (List ℕ)) (word : ℕ) (tail image : List ℕ) → AreRecordsFrom end records → Tail word (joined records) tail (big_bytes 4 0) → BodyThenWord file end tail (big_bytes 4 word) image → IsChain (links ++ links_from end records) image
+  end_put records word tail image whole is put =
+      let new = links_from end records in
+      let bytes = joined records in
+      chain_of (links ++ new) image (record {
+        plain = plain-append image 100 links new kept (subst (λ (p : ℕ). PlainLinks image p new) ends (joined_there image end records end_later (bytes_there file end word bytes tail (big_bytes 4 0) image is put) whole));
+        spaced = spaced_as links [] new (subst Spaced (sym (append-nil links)) parts.spaced) (λ none. absurd none) (subst Spaced (append-nil new) (joined_spaced end records [] tt));
+        ends = subst (HoldsEnd image) (let e : end + length bytes ≡ chain_end (links ++ new) = sym (joined_end end records) ∙ ap (λ (p : ℕ). end_from p new) ends ∙ sym (end-append 100 links new) in e)
+            (record { later = omega (arith, end_later); zero_word = word_of_bytes image (end + length bytes) 0 (omega arith) (more_there file end word bytes tail (big_bytes 4 0) image is put) });
+      })
     where
       kept : PlainLinks image 100 links
-      kept = plain_keeps file image 100 links (put_front file end bytes tail (big_bytes 4 0) image is put end_later) (λ i x low high was. keeps_out file end bytes tail (big_bytes 4 0) image is put i x (inl (omega (arith, high, ends))) was) parts.plain
-
-      there : HoldsRecord image end bytes
-      there = record_there file end bytes tail (big_bytes 4 0) image is put end_later whole
-
-  pub end_either : (v : View) (bytes tail image said : List ℕ) → IsRecord end bytes → Tail bytes tail (big_bytes 4 0) → IsBodyBehind v file end tail (big_bytes 4 (length bytes)) image said → IsEither v file links (links ++ RecordAt end bytes ∷ []) image said
-  end_either v bytes tail image said whole is behind = record {
-    links = ⊎_elim (λ torn. inl (end_torn (length tail) image torn)) (λ put. inr (end_put bytes tail image whole is put)) behind.image_is;
-    front = ⊎_elim (λ torn. end_torn_front (length tail) image torn) (λ put. put_front file end bytes tail (big_bytes 4 0) image is put end_later) behind.image_is;
-    text = behind.text;
-  }
+      kept = plain_keeps file image 100 links (put_front file end word (joined records) tail (big_bytes 4 0) image is put end_later) (λ i x low high was. keeps_out file end word (joined records) tail (big_bytes 4 0) image is put i x (inl (omega (arith, high, ends))) was) parts.plain
 
 -- ---- in a gap
 
@@ -183,22 +205,28 @@ module _ (links front back : List Link) (place m : ℕ) (is : links ≡ front ++
       same_end : HoldsEnd image (end_from (place + m) back)
       same_end = end_keeps file image (end_from (place + m) back) (λ i x low high was. torn.outside i x (inr (omega (arith, low, fits, end-le (place + m) back))) was) ends_there
 
-  module _ (bytes tail : List ℕ) (k : ℕ) (fits : length bytes + k ≡ m) (some : IsRest k) (whole : IsRecord place bytes) (tail_is : Tail bytes tail (filler k)) where
+  module _ (records : List (List ℕ)) (word : ℕ) (tail : List ℕ) (k : ℕ) (fits : length (joined records) + k ≡ m) (some : IsRest k) (whole : AreRecordsFrom place records) (tail_is : Tail word (joined records) tail (filler k)) where
+    abbrev bytes : List ℕ
+    bytes = joined records
+
+    abbrev new : List Link
+    new = links_from place records
+
     pub tail_fits : 4 + length tail ≤ m
     tail_fits = omega (arith, fits, filler_length k some, tail_long)
       where
         tail_long : length tail + 4 ≡ length bytes + length (filler k)
-        tail_long = omega (arith, ap length tail_is.record_is, length-append (big_bytes 4 (length bytes)) tail_is.others, length-word (length bytes), ap length tail_is.tail_is, length-append tail_is.others (filler k))
+        tail_long = omega (arith, ap length tail_is.records_are, length-append (big_bytes 4 word) tail_is.others, length-word word, ap length tail_is.tail_is, length-append tail_is.others (filler k))
 
-    module _ (image : List ℕ) (put : BodyThenWord file place tail (big_bytes 4 (length bytes)) image) where
+    module _ (image : List ℕ) (put : BodyThenWord file place tail (big_bytes 4 word) image) where
       kept_out : (i x : ℕ) → (i < place) ⊎ (place + m ≤ i) → slice_get file i ≡ Some x → slice_get image i ≡ Some x
       kept_out i x out was = ⊎_elim
-          (λ low. keeps_out file place bytes tail (filler k) image tail_is put i x (inl low) was)
-          (λ high. keeps_out file place bytes tail (filler k) image tail_is put i x (inr (omega (arith, high, fits, filler_length k some))) was)
+          (λ low. keeps_out file place word bytes tail (filler k) image tail_is put i x (inl low) was)
+          (λ high. keeps_out file place word bytes tail (filler k) image tail_is put i x (inr (omega (arith, high, fits, filler_length k some))) was)
           out
 
       kept_front : KeepsFront file image
-      kept_front = put_front file place bytes tail (filler k) image tail_is put gap.later
+      kept_front = put_front file place word bytes tail (filler k) image tail_is put gap.later
 
       kept_back : PlainLinks image (place + m) back
       kept_back = plain_keeps file image (place + m) back kept_front (λ i x low high was. kept_out i x (inr low) was) behind_gap
@@ -231,23 +259,29 @@ module _ (links front back : List Link) (place m : ℕ) (is : links ≡ front ++
       rest_end zero p ends' = ap (λ (q : ℕ). end_from q back) (let e : p ≡ place + m = omega (arith, ends') in e)
       rest_end (suc k) p ends' = ap (λ (q : ℕ). end_from q back) ends'
 
-      -- the record stands in it
-      pub gap_put : IsChain (front ++ RecordAt place bytes ∷ rest_links (place + length bytes) k back) image
-      gap_put = chain_of (front ++ RecordAt place bytes ∷ rest_links (place + length bytes) k back) image (record {
-        plain = plain-append image 100 front (RecordAt place bytes ∷ rest_links (place + length bytes) k back)
-            (plain_keeps file image 100 front kept_front (λ i x low high was. kept_out i x (inl (omega (arith, high, stands))) was) cut.0)
-            (subst (λ (p : ℕ). PlainLinks image p (RecordAt place bytes ∷ rest_links (place + length bytes) k back)) stands (
-              (refl, record_there file place bytes tail (filler k) image tail_is put gap.later whole),
-              rest_plain k (place + length bytes) (omega (arith, fits)) (omega arith) some (omega (arith, fits)) (more_there file place bytes tail (filler k) image tail_is put),
-            ));
-        spaced = spaced_as front (GapAt place m ∷ back) (RecordAt place bytes ∷ rest_links (place + length bytes) k back) whole_parts.spaced (λ none. tt) (rest_spaced k (place + length bytes));
-        ends = subst (HoldsEnd image) (let e : end_from (place + m) back ≡ chain_end (front ++ RecordAt place bytes ∷ rest_links (place + length bytes) k back) =
-            sym (rest_end k (place + length bytes) (omega (arith, fits))) ∙ ap (λ (p : ℕ). end_from (p + length bytes) (rest_links (place + length bytes) k back)) stands ∙ sym (end-append 100 front (RecordAt place bytes ∷ rest_links (place + length bytes) k back)) in e) kept_end;
-      })
+      -- what is left of the gap
+      abbrev left : List Link
+      left = rest_links (place + length bytes) k back
 
-    pub gap_either : (v : View) (image said : List ℕ) → IsBodyBehind v file place tail (big_bytes 4 (length bytes)) image said → IsEither v file links (front ++ RecordAt place bytes ∷ rest_links (place + length bytes) k back) image said
-    gap_either v image said behind = record {
-      links = ⊎_elim (λ torn. inl (gap_torn (length tail) image tail_fits torn)) (λ put. inr (gap_put image put)) behind.image_is;
-      front = ⊎_elim (λ torn. gap_torn_front (length tail) image torn) (λ put. kept_front image put) behind.image_is;
-      text = behind.text;
-    }
+      left_plain : PlainLinks image (end_from place new) left
+      left_plain = subst (λ (p : ℕ). PlainLinks image p left) (sym (joined_end place records))
+          (rest_plain k (place + length bytes) (omega (arith, fits)) (omega arith) some (omega (arith, fits)) (more_there file place word bytes tail (filler k) image tail_is put))
+
+      left_end : end_from (place + m) back ≡ chain_end (front ++ (new ++ left))
+      left_end =
+          sym (rest_end k (place + length bytes) (omega (arith, fits)))
+          ∙ ap (λ (p : ℕ). end_from p left) (sym (joined_end place records))
+          ∙ sym (end-append place new left)
+          ∙ ap (λ (p : ℕ). end_from p (new ++ left)) stands
+          ∙ sym (end-append 100 front (new ++ left))
+
+      -- the records stand in it
+      pub gap_put : IsChain (front ++ (new ++ left)) image
+      gap_put = chain_of (front ++ (new ++ left)) image (record {
+        plain = plain-append image 100 front (new ++ left)
+            (plain_keeps file image 100 front kept_front (λ i x low high was. kept_out i x (inl (omega (arith, high, stands))) was) cut.0)
+            (subst (λ (p : ℕ). PlainLinks image p (new ++ left)) stands
+            (plain-append image place new left (joined_there image place records gap.later (bytes_there file place word bytes tail (filler k) image tail_is put) whole) left_plain));
+        spaced = spaced_as front (GapAt place m ∷ back) (new ++ left) whole_parts.spaced (λ none. absurd none) (joined_spaced place records left (rest_spaced k (place + length bytes)));
+        ends = subst (HoldsEnd image) left_end kept_end;
+      })

@@ -15,6 +15,11 @@ with_record place bytes (RecordAt p others ∷ links) = RecordAt p others ∷ wi
 with_record place bytes (GapAt p n ∷ links) =
     if p == place then RecordAt place bytes ∷ with_rest (place + length bytes) (n - length bytes) links else GapAt p n ∷ with_record place bytes links
 
+-- the links with records one behind the other from this place on
+abbrev pub with_records : ℕ → List (List ℕ) → List Link → List Link
+with_records place [] links = links
+with_records place (bytes ∷ records) links = with_records (place + length bytes) records (with_record place bytes links)
+
 -- ---- a release
 
 -- Free bytes in front of links: with a gap that the links begin with they are one gap, and where no link is behind them END is

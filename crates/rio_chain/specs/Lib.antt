@@ -1,4 +1,5 @@
 pub mod Adjoining
+pub mod Batches
 pub mod Becoming
 pub mod Chains
 pub mod Changes

@@ -1,7 +1,7 @@
 -- Where records go: the choice of place, and what a record makes of the segments.
 use Rattle.std.specs.{Prelude.{◌≡◌, ◌⊎◌, ℕ, zero, suc, ◌+◌, ◌-◌, ◌^◌, ◌≤◌, ◌==◌, List, [], ◌∷◌, ◌++◌, Option, Some, None, if◌then◌else◌}, Option.{unwrap_or}}
 use Rattle.byteorder.specs.Endian.{big_bytes}
-use Rattle.rio_free.specs.{Gaps.{best_place, gap_of, taken}, declared.gap.Gap.{Gap as FreeGap}}
+use Rattle.rio_free.specs.{Gaps.{HasGapFor, best_place, gap_of, taken}, declared.gap.Gap.{Gap as FreeGap}}
 use Rattle.rio_chain.specs.{declared.segment.Segment.{Segment, TheVariants.{Record, Gap}}, Adjoining.{segments_end}}
 
 -- the gaps among some segments
@@ -34,6 +34,11 @@ with_segment place n [] = Record place n ∷ []
 with_segment place n (Record p m ∷ segments) = Record p m ∷ with_segment place n segments
 with_segment place n (Gap p m ∷ segments) = if p == place then Record place n ∷ rest_of_gap (place + n) (m - n) segments else Gap p m ∷ with_segment place n segments
 
+-- the segments with records of these lengths, one behind the other from a place on, which is that of a gap, or END
+abbrev pub with_segments : ℕ → List ℕ → List Segment → List Segment
+with_segments place [] segments = segments
+with_segments place (n ∷ lengths) segments = with_segments (place + n) lengths (with_segment place n segments)
+
 -- what is free: gaps, and all from END on
 pub record FreeSpace : Type 0 where
   pub gaps : List FreeGap
@@ -64,9 +69,17 @@ end_after (n ∷ lengths) space = end_after lengths (laid n space)
 abbrev pub IsPlaceFor : List Segment → ℕ → ℕ → Type 0
 IsPlaceFor segments n place = (place ≡ place_of segments n) ⊎ (place ≡ file_end segments)
 
+-- a gap for n bytes, or END
+abbrev pub IsFree : List Segment → ℕ → ℕ → Type 0
+IsFree segments n place = HasGapFor (gaps_in segments) place n ⊎ (place ≡ file_end segments)
+
 -- a gap of n bytes and a rest begins at a place: the rest is none, or enough for a gap
 abbrev pub HasRest : List Segment → ℕ → ℕ → ℕ → Type 0
 HasRest segments place n rest = (front : List Segment) × (back : List Segment) × (segments ≡ front ++ Gap place (n + rest) ∷ back) × ((rest ≡ 0) ⊎ (4 ≤ rest))
+
+-- at a place there is room for n bytes: a gap of n bytes and a rest, or END
+abbrev pub HasRoomAt : List Segment → ℕ → ℕ → Type 0
+HasRoomAt segments place n = (place ≡ file_end segments) ⊎ ((rest : ℕ) × HasRest segments place n rest)
 
 -- the word of what is left of a gap behind a record, or END's
 abbrev pub word_behind : Option ℕ → List ℕ

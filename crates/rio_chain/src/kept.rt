@@ -103,12 +103,13 @@ impl Chain {
 }
 
 impl Chain {
-    ghost use Rattle.std.specs.Prelude.{◌≡◌, ◌+◌, ◌-◌, ◌%◌, ◌≤◌, ◌∷◌, ◌++◌, [], nat_lt, MatchOption, IfSome, false};
+    ghost use Rattle.std.specs.Prelude.{◌≡◌, ◌+◌, ◌-◌, ◌%◌, ◌≤◌, ◌∷◌, ◌++◌, [], length, sum, nat_lt, MatchOption, IfSome, false};
     ghost use Rattle.std.specs.List.{prefix_len};
     ghost use Rattle.rio_free.specs.Gaps.{HasGapFor};
     ghost use Rattle.rio_chain.specs.declared.segment.Segment.TheVariants.{Record};
     ghost use Rattle.rio_chain.specs.Merging.{spans_in};
-    ghost use Rattle.rio_chain.specs.Placing.{HasRest, IsPlaceFor, file_end, gaps_in, with_segment};
+    ghost use Rattle.rio_chain.specs.Batches.{AreLengths};
+    ghost use Rattle.rio_chain.specs.Placing.{HasRest, HasRoomAt, IsFree, IsPlaceFor, file_end, gaps_in, with_segment, with_segments};
 
     // How many records begin before the place.
     pub(crate) fn count_before(&self, place: u64) -> usize
@@ -169,10 +170,9 @@ impl Chain {
         self.spare -= 1;
     }
 
-    /// Changes the chain as `put_record` of `n` bytes at `place` does, with no file.
-    pub fn note_put(&mut self, place: u64, n: u64)
-        requires fresh { self.old.spent ≡ false }
-        requires place { IsPlaceFor self.old.segments n place }
+    // Puts a record of `n` bytes at a place that is free for it.
+    fn note_at(&mut self, place: u64, n: u64)
+        requires free { IsFree self.old.segments n place }
         requires low { file_end (with_segment place n self.old.segments) ≤ 1999999996 }
         requires aligned { n % 4 ≡ 0 }
         requires some { 4 ≤ n }
@@ -187,5 +187,40 @@ impl Chain {
         } else {
             self.note_gap(place, n);
         }
+    }
+
+    // Puts records of these lengths, one after the other from `place` on.
+    pub(crate) fn note_all(&mut self, place: u64, lengths: &[u64])
+        requires lengths { AreLengths lengths.now }
+        requires space { HasRoomAt self.old.segments place (sum lengths.now) }
+        requires low { file_end (with_segments place lengths.now self.old.segments) ≤ 1999999996 }
+        requires room { length lengths.now ≤ self.old.spare }
+        ensures { self.new ≡ record self.old {
+          segments = with_segments place lengths.now self.old.segments;
+          spare = self.old.spare - length lengths.now;
+        } }
+    {
+        let _end = self.end();
+        let mut at = place;
+        for n in lengths {
+            self.note_at(at, *n);
+            at += *n;
+        }
+    }
+
+    /// Changes the chain as `put_record` of `n` bytes at `place` does, with no file.
+    pub fn note_put(&mut self, place: u64, n: u64)
+        requires fresh { self.old.spent ≡ false }
+        requires place { IsPlaceFor self.old.segments n place }
+        requires low { file_end (with_segment place n self.old.segments) ≤ 1999999996 }
+        requires aligned { n % 4 ≡ 0 }
+        requires some { 4 ≤ n }
+        requires room { 1 ≤ self.old.spare }
+        ensures { self.new ≡ record self.old {
+          segments = with_segment place n self.old.segments;
+          spare = self.old.spare - 1;
+        } }
+    {
+        self.note_at(place, n);
     }
 }

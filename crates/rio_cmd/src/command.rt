@@ -4,6 +4,7 @@ ghost use Rattle.rio_token.specs.Reading.{Reads};
 ghost use Rattle.rio_token.specs.Tokens.{behind};
 ghost use Rattle.rio_step.specs.Script.{asked_version_at, class_command_at, command_at, comes_next, cycle_at, delete_command_at, ended_at, get_command_at, put_command_at};
 
+use crate::batch::read_batch;
 use crate::tree::{read_fill, read_save, read_scan, read_tree};
 use rio_decl::take_class;
 use rio_machine::Command;
@@ -23,6 +24,8 @@ pub(crate) fn read_command(alloc: Global, tokens: &mut Tokens) -> Result<Command
         read_class(alloc, tokens)
     } else if take_keyword(tokens, b"put") {
         read_put(alloc, tokens)
+    } else if take_keyword(tokens, b"batch") {
+        read_batch(alloc, tokens)
     } else if take_keyword(tokens, b"delete") {
         read_delete(alloc, tokens)
     } else if take_keyword(tokens, b"tree") {

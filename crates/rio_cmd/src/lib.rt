@@ -8,6 +8,7 @@
 //! `read_import_words` and `read_gen_words` (`specs/ImportWords.antt`), the branches by the same readers.
 #![tactic(auto)]
 
+mod batch;
 mod branches;
 mod command;
 mod glued;

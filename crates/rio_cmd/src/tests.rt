@@ -2,7 +2,7 @@
 use crate::{read_gen_words, read_import_words, read_script};
 use rio_decl::print_class;
 use rio_leaf::{BranchDef, Shape, print_leaves};
-use rio_machine::{Command, Commands};
+use rio_machine::{Command, Commands, PutItem};
 use rio_num::{Bytes, Name, NoMemory, Words};
 use rio_types::Base;
 use rio_valtext::print_value;
@@ -76,6 +76,16 @@ fn put_tree_command(text: &mut Bytes, command: &Command) -> Result<(), NoMemory>
     }
 }
 
+fn put_puts(text: &mut Bytes, puts: &[PutItem]) -> Result<(), NoMemory> {
+    text.put(b"batch")?;
+    for put in puts {
+        put_name(text, b" ", put.name.as_slice())?;
+        text.put(b" ")?;
+        print_value(&put.value, text)?;
+    }
+    Ok(())
+}
+
 fn put_command(text: &mut Bytes, command: &Command) -> Result<(), NoMemory> {
     match command {
         Command::Bad { line, place } => {
@@ -88,6 +98,7 @@ fn put_command(text: &mut Bytes, command: &Command) -> Result<(), NoMemory> {
             text.put(b" ")?;
             print_value(value, text)
         }
+        Command::Batch { puts } => put_puts(text, puts.as_slice()),
         Command::Delete { name, cycle } => {
             put_name(text, b"delete ", name.as_slice())?;
             put_cycle(text, *cycle)
@@ -184,6 +195,71 @@ fn reads_scripts(rt: HostRuntime) -> Result<(), Fail> {
         let text = commands_of(rt.alloc(), script)?;
         assert!(rt; text.as_slice() == expected);
     }
+    Ok(())
+}
+
+#[test]
+fn reads_batches(rt: HostRuntime) -> Result<(), Fail> {
+    let table: [(&[u8], &[u8]); 5] = [
+        (
+            b"batch { a 5, b [1,2] }\nbatch{7\t\"x\"}\n",
+            b"batch a 5 b [1, 2]\nbatch 7 \"x\"\n",
+        ),
+        (
+            b"batch { a P{x: 1}, a P#2{}}\n",
+            b"batch a P#0{x: 1} a P#2{}\n",
+        ),
+        (
+            b"batch {}\nbatch {a 5,}\nbatch a 5\nbatch {a 5\nbatch\n",
+            b"bad 1 7\nbad 2 11\nbad 3 6\nbad 4 10\nbad 5 5\n",
+        ),
+        (
+            b"batch {a 5; b 6}\nbatch {a 5} x\nbatch {a}\nbatch {a, b 5}\n",
+            b"bad 1 10\nbad 2 12\nbad 3 8\nbad 4 8\n",
+        ),
+        (
+            b"batch {a 5 b 6}\nbatch {\"a\" 5}\n",
+            b"bad 1 11\nbad 2 7\n",
+        ),
+    ];
+    for (script, expected) in table {
+        let text = commands_of(rt.alloc(), script)?;
+        assert!(rt; text.as_slice() == expected);
+    }
+    Ok(())
+}
+
+// A batch of one put, whose value is so many lists within one another.
+fn nested_batch(alloc: Global, lists: usize) -> Result<Bytes, NoMemory> {
+    let mut text = Bytes::new(alloc);
+    text.put(b"batch {a ")?;
+    for _level in 0..lists {
+        text.push(b'[')?;
+    }
+    for _level in 0..lists {
+        text.push(b']')?;
+    }
+    text.put(b"}")?;
+    Ok(text)
+}
+
+fn nested_is_read(alloc: Global, lists: usize) -> Result<bool, NoMemory> {
+    let script = nested_batch(alloc, lists)?;
+    let text = commands_of(alloc, script.as_slice())?;
+    Ok(text.as_slice().starts_with(b"batch a [["))
+}
+
+fn nested_is_bad(alloc: Global, lists: usize, expected: &[u8]) -> Result<bool, NoMemory> {
+    let script = nested_batch(alloc, lists)?;
+    let text = commands_of(alloc, script.as_slice())?;
+    Ok(text.as_slice() == expected)
+}
+
+// The braces of a batch are among the 1,024 brackets that may stand within one another.
+#[test]
+fn counts_the_braces_of_a_batch(rt: HostRuntime) -> Result<(), Fail> {
+    assert!(rt; nested_is_read(rt.alloc(), 1023)?);
+    assert!(rt; nested_is_bad(rt.alloc(), 1024, b"bad 1 1032\n")?);
     Ok(())
 }
 

@@ -1,5 +1,5 @@
 -- The key table: heads in the order of the key list, no two of one name and cycle.
-use Rattle.std.specs.Prelude.{◌≡◌, ◌==◌, ◌&&◌, ℕ, ◌^◌, ◌<◌, Bool, true, false, List, [], ◌∷◌, ◌++◌, length, max, Option, None, Some, nat_lt, if◌then◌else◌}
+use Rattle.std.specs.Prelude.{◌≡◌, ◌==◌, ◌&&◌, ℕ, ◌^◌, ◌<◌, ◌≤◌, Bool, true, false, List, [], ◌∷◌, ◌++◌, length, max, Option, None, Some, nat_lt, if◌then◌else◌}
 use Rattle.std.specs.{List.{find, flat_map, sum_by}, Set.{remove_key}, Str.{bytes_eq}, Ordering.{nat_cmp}, Cmp.Lexicographic.{slice_cmp}}
 use Rattle.std.specs.declared.cmp.Ordering.{Ordering, TheVariants.{Less, Equal, Greater}}
 use Rattle.byteorder.specs.Endian.{big_bytes}
@@ -10,10 +10,11 @@ pub record TableRoom : Type 0 where
   pub heads : List KeyHead
   pub spare : ℕ
 
--- how many boxes there are for further heads
-abbrev pub box_count : Option KeyHead → ℕ
-box_count None = 0
-box_count (Some h) = 1
+-- the keys are as before, and there is room for no fewer, but not for so many
+pub record HasRoomBelow (old new : TableRoom) (count : ℕ) : Type 0 where
+  pub heads : new.heads ≡ old.heads
+  pub more : old.spare ≤ new.spare
+  pub few : new.spare < count
 
 -- the head of a name, and that of a name and cycle
 abbrev pub is_of_name : List ℕ → KeyHead → Bool
@@ -54,6 +55,11 @@ is_name_before name h = first_by (slice_cmp nat_cmp h.name name) false
 abbrev pub with_head : KeyHead → List KeyHead → List KeyHead
 with_head h [] = h ∷ []
 with_head h (k ∷ ks) = if is_before h.name h.cycle k then k ∷ with_head h ks else h ∷ k ∷ ks
+
+-- and with several more, one after the other
+abbrev pub with_heads : List KeyHead → List KeyHead → List KeyHead
+with_heads [] heads = heads
+with_heads (h ∷ hs) heads = with_heads hs (with_head h heads)
 
 -- the heads without that of a name and cycle
 abbrev pub without_head : List ℕ → ℕ → List KeyHead → List KeyHead

@@ -1,5 +1,5 @@
 //! The keys of a file, in the order of the key list.
-ghost use Rattle.std.specs.Prelude.{◌≡◌, ◌+◌, ◌<◌, ◌^◌, false, slice_get};
+ghost use Rattle.std.specs.Prelude.{◌≡◌, ◌+◌, ◌<◌, ◌≤◌, ◌^◌, false, length, slice_get, OnOk, OnErr};
 ghost use Rattle.std.specs.Option.{option_copied, option_map_or};
 ghost use Rattle.rio_dir.specs.Table.{heads_size, if_matching, is_at_cycle, is_before, is_name_before, is_of_name};
 
@@ -14,21 +14,21 @@ use std::marker::Model;
 pub struct KeyTable {
     // Boxed, so that few bytes move where a key is inserted before others.
     heads: Vec<Boxed<KeyHead>>,
-    // The box for the next key. The head in it has no meaning.
-    spare: Option<Boxed<KeyHead>>,
+    // The boxes for the next keys. The heads in them have no meaning.
+    spare: Vec<Boxed<KeyHead>>,
 }
 
 impl Model for KeyTable {
-    ghost use Rattle.std.specs.Prelude.{◌+◌, ◌≤◌, vec_len, vec_capacity};
-    ghost use Rattle.rio_dir.specs.Table.{AreOrdered, TableRoom, box_count};
+    ghost use Rattle.std.specs.Prelude.{◌+◌, ◌≤◌, length, vec_len, vec_capacity};
+    ghost use Rattle.rio_dir.specs.Table.{AreOrdered, TableRoom};
 
     ghost Value = { TableRoom };
 
-    ghost view = { λ t. record { heads = t.heads.items; spare = box_count t.spare } };
+    ghost view = { λ t. record { heads = t.heads.items; spare = length t.spare.items } };
 
     ghost invariant = { λ t. record {
       ordered : AreOrdered t.heads.items;
-      room : vec_len t.heads + box_count t.spare ≤ vec_capacity t.heads;
+      room : vec_len t.heads + length t.spare.items ≤ vec_capacity t.heads;
     } };
 }
 
@@ -129,11 +129,25 @@ fn empty_head(alloc: Global) -> KeyHead {
     }
 }
 
+// Boxes up to so many.
+fn make_boxes(alloc: Global, boxes: &mut Vec<Boxed<KeyHead>>, count: usize) -> Result<(), NoMemory>
+    requires { length boxes.old.items ≤ count }
+    ensures ok { OnOk result (length boxes.new.items ≡ count) }
+    ensures err { OnErr result ((length boxes.old.items ≤ length boxes.new.items)
+        × (length boxes.new.items < count)) }
+{
+    for _done in boxes.len()..count {
+        let boxed = Boxed::new(alloc, empty_head(alloc))?;
+        boxes.push(boxed)?;
+    }
+    Ok(())
+}
+
 impl KeyTable {
     ghost use Rattle.std.specs.Prelude.{◌≡◌, ◌+◌, ◌-◌, ◌<◌, ◌≤◌, ◌^◌, [], length, max, slice_get, None, Some, OnOk, OnErr};
     ghost use Rattle.std.specs.List.{find, prefix_len};
     ghost use Rattle.std.specs.Option.{option_copied};
-    ghost use Rattle.rio_dir.specs.Table.{AreOrdered, greatest_cycle, head_of, is_at_cycle, is_before, is_name_before, with_head, without_head};
+    ghost use Rattle.rio_dir.specs.Table.{AreOrdered, HasRoomBelow, greatest_cycle, head_of, is_at_cycle, is_before, is_name_before, with_head, without_head};
 
     /// No keys.
     pub fn new(alloc: Global) -> KeyTable
@@ -141,7 +155,7 @@ impl KeyTable {
     {
         KeyTable {
             heads: Vec::new(alloc),
-            spare: None,
+            spare: Vec::new(alloc),
         }
     }
 
@@ -175,13 +189,20 @@ impl KeyTable {
         ensures ok { OnOk result (self.new ≡ record self.old { spare = max self.old.spare 1 }) }
         ensures err { OnErr result ((self.new ≡ self.old) × (self.old.spare < 1)) }
     {
-        if self.spare.is_some() {
+        self.reserve(1)
+    }
+
+    /// Makes room for so many more keys. Where memory runs out, there may be room for fewer.
+    pub fn reserve(&mut self, count: usize) -> Result<(), NoMemory>
+        ensures ok { OnOk result (self.new ≡ record self.old { spare = max self.old.spare count }) }
+        ensures err { OnErr result (HasRoomBelow self.old self.new count) }
+    {
+        if self.spare.len() >= count {
             return Ok(());
         }
         let alloc = *self.heads.allocator();
-        self.heads.reserve(1)?;
-        self.spare = Some(Boxed::new(alloc, empty_head(alloc))?);
-        Ok(())
+        self.heads.reserve(count)?;
+        make_boxes(alloc, &mut self.spare, count)
     }
 
     // How many keys come before one of the name and cycle.
@@ -202,7 +223,7 @@ impl KeyTable {
         } }
     {
         let at = self.count_before(head.name.as_slice(), head.cycle);
-        let Some(mut boxed) = self.spare.take() else {
+        let Some(mut boxed) = self.spare.pop() else {
             return;
         };
         boxed.set(head);

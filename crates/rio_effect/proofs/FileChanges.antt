@@ -1,8 +1,8 @@
 -- What one change makes of a file's segments.
-use Rattle.std.proofs.Common.{◌≡◌, ℕ, ◌+◌, ◌-◌, ◌%◌, List, length, length-append, map, Option, refl, sym, ap, ◌∙◌}
+use Rattle.std.proofs.Common.{◌≡◌, ℕ, ◌+◌, ◌-◌, ◌%◌, List, [], ◌∷◌, length, length-append, map, Option, refl, sym, ap, ◌∙◌}
 use Rattle.std.proofs.lemmas.List.{length-replicate}
-use Rattle.rio_chain.specs.{Placing.{with_segment}, Segments.{segment_of}}
-use Rattle.rio_chain.proofs.{FewerRecords.{keeps_segments}, PutChain.{map_with}}
+use Rattle.rio_chain.specs.{Placing.{with_segment, with_segments}, Segments.{segment_of}}
+use Rattle.rio_chain.proofs.{FewerRecords.{keeps_segments}, PutChain.{map_all, map_with}}
 use Rattle.rio_types.specs.declared.class.ClassDef.{ClassDef}
 use Rattle.rio_key.specs.{Written.{written_key}, declared.head.KeyHead.{KeyHead}}
 use Rattle.rio_machine.specs.State.{State}
@@ -10,10 +10,12 @@ use Rattle.rio_num.specs.Room.{padding}
 use Rattle.rio_chain.specs.{Record.{key_size, new_key, record_bytes, unpadded}, declared.key_words.KeyWords.{KeyWords}}
 use Rattle.rio_chain.proofs.Records.{key_long}
 use Rattle.rio_value.specs.declared.value.Value.{Value}
-use Rattle.rio_step.specs.Refusing.{with_class}
+use Rattle.std.specs.Prelude.{sum}
+use Rattle.rio_machine.specs.declared.command.PutItem.{PutItem}
+use Rattle.rio_step.specs.{Refusing.{with_class}, Step.{with_object}}
 use Rattle.rio_effect.proofs.BasketLength.{record_long}
 use Rattle.rio_effect.specs.ClassRecord.{list_data, list_record, list_words, next_list_cycle, record_of_class}
-use Rattle.rio_effect.specs.{FileRuns.{SegmentsFollow, added, basket_added, basket_place, released, added_length, added_place, bytes_at}, TreeRecords.{record_of_basket}, ObjectRecord.{data_of_put, object_record, record_of_put, words_of_put}}
+use Rattle.rio_effect.specs.{FileRuns.{SegmentsFollow, added, basket_added, basket_place, batch_added, batch_bytes, batch_lengths, batch_place, released, added_length, added_place, bytes_at}, TreeRecords.{record_of_basket}, ObjectRecord.{data_of_put, object_record, record_of_put, records_of_batch, records_of_puts, size_of_batch, size_of_put, words_of_put}}
 
 -- how long a front is with its zero bytes
 abbrev filled : ℕ → ℕ
@@ -32,9 +34,19 @@ record_size words contents =
 pub same_length : (place : ℕ) (words : KeyWords) (contents : List ℕ) → length (bytes_at place words contents) ≡ added_length words contents
 same_length place words contents = record_size (record words { place = place }) contents ∙ sym (record_size (record words { place = 0 }) contents)
 
+pub batch_long : (place : ℕ) (records : List (KeyWords × List ℕ)) → map length (batch_bytes place records) ≡ batch_lengths records
+batch_long place [] = refl
+batch_long place (r ∷ records) =
+    let first = same_length place r.0 r.1 in
+    let rest = batch_long (place + added_length r.0 r.1) records in
+    λ i. first i ∷ rest i
+
 -- an added record is one segment more, at the place of the rule; a released one is one less
 pub segments_follow : SegmentsFollow
 segments_follow links (released place) = keeps_segments links place
+segments_follow links (batch_added records) =
+    let place = batch_place links records in
+    map_all (batch_bytes place records) place links ∙ ap (λ (ns : List ℕ). with_segments place ns (map segment_of links)) (batch_long place records)
 segments_follow links (basket_added words) =
     let place = basket_place links words in
     map_with place (record_of_basket place words) links ∙ ap (λ (n : ℕ). with_segment place n (map segment_of links)) (record_long place words)
@@ -55,6 +67,23 @@ pub put_length : (m : State) (place datime : ℕ) (name : List ℕ) (v : Value)
     → added_length (words_of_put m 0 datime name v) (data_of_put m 0 datime name v) ≡ length (record_of_put m place datime name v)
 put_length m place datime name v =
     sym (same_length place (words_of_put m 0 datime name v) (data_of_put m 0 datime name v)) ∙ ap length (put_bytes m place datime name v)
+
+-- ---- a batch
+
+-- the records that a batch adds are those of its objects, from any place on
+pub records_are : (m : State) (place datime : ℕ) (puts : List PutItem) → batch_bytes place (records_of_puts datime m puts) ≡ records_of_batch m place datime puts
+records_are m place datime [] = refl
+records_are m place datime (p ∷ ps) =
+    let next = with_object m p.name p.value in
+    let long = put_length m place datime p.name p.value in
+    let rest = ap (λ (n : ℕ). batch_bytes (place + n) (records_of_puts datime next ps)) long ∙ records_are next (place + size_of_put m place datime p) datime ps in
+    let first = put_bytes m place datime p.name p.value in
+    λ i. first i ∷ rest i
+
+-- they are as long together
+pub batch_size : (m : State) (place datime : ℕ) (puts : List PutItem) → sum (batch_lengths (records_of_puts datime m puts)) ≡ size_of_batch m place datime puts
+batch_size m place datime puts =
+    ap (λ (ns : List ℕ). sum ns) (sym (batch_long place (records_of_puts datime m puts)) ∙ ap (λ (rs : List (List ℕ)). map length rs) (records_are m place datime puts))
 
 -- ---- a class command
 

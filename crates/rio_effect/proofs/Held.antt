@@ -1,20 +1,22 @@
 -- The record of a put's object raises what a file holds by no more than the put's cost.
-use Rattle.std.proofs.Common.{◌≡◌, inl, inr, ℕ, ◌+◌, ◌-◌, ◌%◌, ◌^◌, ◌≤◌, ◌∙◌, List, [], ◌∷◌, length, map, Option, Some, None, refl, sym, ap, subst, arith}
+use Rattle.std.proofs.Common.{◌≡◌, inl, inr, ℕ, ◌+◌, ◌-◌, ◌%◌, ◌^◌, ◌<◌, ◌≤◌, ◌∙◌, List, [], ◌∷◌, length, map, true, Option, Some, None, refl, sym, ap, subst, arith}
 use Rattle.std.specs.{Prelude.{if◌then◌else◌, is_some}, List.{flat_map, sum_by}}
 use Rattle.rio_chain.specs.{declared.segment.Segment.{Segment}, Adjoining.{AreAdjacent, AreGapsApart, AreSegments, BeginsWithRecord}, Changes.{with_record}}
 use Rattle.rio_chain.specs.Placing.{FreeSpace, IsPlaceFor, file_end, laid, laid_at, place_of, space_of, with_segment}
 use Rattle.rio_chain.specs.Segments.{GapAt, HasWord, HoldsEnd, HoldsLinks, IsChain, IsPositive, Link, RecordAt, chain_end, end_from, segment_of}
-use Rattle.rio_chain.proofs.{Laying.{laid_put}, Placed.{end_grows}, PutChain.{map_end, map_with}, Words.{held_long}}
+use Rattle.rio_chain.proofs.{Laying.{laid_put}, Placed.{end_grows}, PutChain.{map_end, map_with}, Words.{held_long, whole_long}}
 use Rattle.rio_free.specs.Gaps.{best_place}
-use Rattle.rio_format.specs.Written.{written_form}
-use Rattle.rio_machine.specs.{declared.command.Command.TheVariants.{Put}, declared.refusal.Refusal.{Refusal}}
+use Rattle.rio_machine.specs.{State.{State}, declared.command.Command.TheVariants.{Put}, declared.refusal.Refusal.{Refusal}}
 use Rattle.rio_chain.proofs.Records.{key_long}
 use Rattle.rio_chain.specs.Record.{key_size}
-use Rattle.rio_state.specs.{Closing.{free_length, held_beside, held_with, kept_with, list_length, saved_lengths}, TreeLengths.{idle_length, save_lengths, small_fillings}}
-use Rattle.rio_state.proofs.CloseSizes.{closing_sum}
-use Rattle.rio_step.specs.{Costs.{accepted_cost, cost_of}, Refusing.{put_value}}
-use Rattle.rio_effect.specs.{Laws.{HeldGrows}, ObjectRecord.{data_of_put, object_record, words_of_put}}
-use Rattle.rio_effect.proofs.{Needs.{need_grows}, PutEffect.{is_object_key}, PutObject.{accepted, key_short, new_record, own_class, put_record}}
+use Rattle.rio_state.specs.{Closing.{free_length, held_beside, held_with, kept_with, list_length, name_in, saved_lengths}, KeyedRecords.{keyed_records}, TreeLengths.{PendingRows, idle_length, save_lengths, small_fillings}}
+use Rattle.rio_state.proofs.{CloseSizes.{closing_sum}, MoreRecords.{first_stays}}
+use Rattle.rio_num.specs.Word.{is_item_text}
+use Rattle.rio_value.specs.declared.value.Value.{Value}
+use Rattle.rio_model.specs.StateClasses.{StateClasses}
+use Rattle.rio_step.specs.{Costs.{accepted_cost, cost_of, put_cost}, Refusing.{put_value, refusal_of}}
+use Rattle.rio_effect.specs.{Laws.{HeldGrows}, ObjectRecord.{data_of_put, object_record, record_of_put, words_of_put}}
+use Rattle.rio_effect.proofs.{Needs.{need_grows_by}, PutEffect.{is_object_key, puts_have_records}, PutObject.{accepted, key_short, new_record, own_class, put_record}}
 use Rattle.rio_tree.proofs.WrittenLengths.{written_length}
 
 -- ---- the segments of a file
@@ -78,22 +80,23 @@ sums_low : (end end' list list' free free' n k size pad : ℕ) → end' ≤ end 
     → end' + ((list' + 3) + (free' + 3)) ≤ end + ((list + 3) + (free + 3)) + (500 + size)
 sums_low end end' list list' free free' n k size pad one two three four five six = omega (arith, one, two, three, four, five, six)
 
-pub held_grows : HeldGrows
-unfolding held_with cost_of object_record
-held_grows pending file links m place datime name v low soon chain at are named e =
+-- where the first record stays the first, and END rises by no more than the record's length
+pub held_more : (pending : PendingRows) (links : List Link) (m : State) (place datime : ℕ) (name : List ℕ) (v : Value) → place < 2 ^ 32 → datime < 2 ^ 32
+    → name_in (keyed_records (with_record place (record_of_put m place datime name v) links)) ≡ name_in (keyed_records links)
+    → chain_end (with_record place (record_of_put m place datime name v) links) ≤ chain_end links + length (record_of_put m place datime name v)
+    → StateClasses m.classes → is_item_text name ≡ true → refusal_of m (Put name v) None ≡ None
+    → held_with pending (with_record place (record_of_put m place datime name v) links) ≤ held_with pending links + put_cost m v
+unfolding held_with object_record
+held_more pending links m place datime name v low soon first end are named e =
     let ok = accepted m name v None e in
     let r = put_record m place datime name v ok are named low soon in
     let new = new_record m place datime name v ok are named low soon in
     let words = words_of_put m place datime name v in
     let contents = data_of_put m place datime name v in
     let key = is_object_key r.head refl (own_class m place datime name v ok are named) ok.free in
-    let grows = need_grows pending file links place r.bytes r.head chain (new.key_read place) key.top key.object in
+    let grows = need_grows_by pending links place r.bytes r.head first (new.key_read place) key.top key.object in
     let long = key_long words (length contents) in
-    let some : 4 ≤ length r.bytes = let size = new.size in omega (arith, size) in
-    let end = chain_low file links place r.bytes chain some new.aligned at in
     let same = written_length m.classes (key_size words) 0 (put_value m v) in
-    let cost : cost_of m (Put name v) ≡ 500 + length (written_form m.classes 0 (put_value m v)) =
-    ap (λ (o : Option Refusal). if is_some o then 0 else accepted_cost m (Put name v)) e in
     let pad = (4 - (key_size words + length contents) % 4) % 4 in
     let before = kept_with pending links in
     let after = kept_with pending (with_record place r.bytes links) in
@@ -101,4 +104,14 @@ held_grows pending file links m place datime name v low soon chain at are named 
     (grows.list ∙ ap (λ (n : ℕ). list_length before + n) long) grows.free in
     let saves : sum_by (λ n. n + 3) (saved_lengths after) ≡ sum_by (λ n. n + 3) (saved_lengths before) = ap (λ ts. sum_by (λ n. n + 3) (flat_map save_lengths ts)) grows.trees in
     let beside : held_beside after ≡ held_beside before = ap (λ ts. sum_by idle_length ts + sum_by small_fillings ts) grows.trees in
-    omega (arith, sum, cost, same, saves, beside, closing_sum (λ n. n + 3) before, closing_sum (λ n. n + 3) after)
+    omega (arith, sum, same, saves, beside, closing_sum (λ n. n + 3) before, closing_sum (λ n. n + 3) after)
+
+pub held_grows : HeldGrows
+unfolding cost_of
+held_grows pending file links m place datime name v low soon chain at are named e =
+    let bytes = record_of_put m place datime name v in
+    let whole = (puts_have_records m place datime name v None low soon are named e).whole in
+    let end = chain_low file links place bytes chain (whole_long place bytes whole) whole.aligned at in
+    let more = held_more pending links m place datime name v low soon (first_stays file links place bytes chain) end are named e in
+    let cost : cost_of m (Put name v) ≡ put_cost m v = ap (λ (o : Option Refusal). if is_some o then 0 else accepted_cost m (Put name v)) e in
+    omega (arith, more, cost)

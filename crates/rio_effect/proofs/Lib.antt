@@ -1,6 +1,8 @@
 pub mod AllItems
 pub mod BasketLength
 pub mod BasketRuns
+pub mod BatchEffect
+pub mod BatchHeld
 pub mod ClassCommand
 pub mod ClassEffect
 pub mod ClassHeld

@@ -3,11 +3,11 @@ use Rattle.std.proofs.Common.{◌≡◌, ℕ, ◌+◌, ◌≤◌, ◌∙◌, cod
 use Rattle.std.proofs.{lemmas.Bool.{and_parts}, lemmas.List.{length-append, Sums.{sum_by-append, sum_by-cons}}}
 use Rattle.std.specs.List.{flat_map, sum_by}
 use Rattle.rio_key.specs.{Written.{written_key}, declared.head.KeyHead.{KeyHead}}
-use Rattle.rio_chain.specs.Changes.{with_record}
+use Rattle.rio_chain.specs.{Changes.{with_record}, Segments.{Link}}
 use Rattle.rio_machine.specs.Limits.{head_length}
-use Rattle.rio_state.specs.{Closing.{KeptRecords, close_need, free_length, item_heads, kept_count, kept_with, list_length, open_count, padded_length, saved_lengths}, Contents.{file_classes}, TreeLengths.{put_among, save_lengths, trees_among}, Trees.{all_places_named}}
-use Rattle.rio_state.specs.KeyedRecords.{KeyedRecord, has_info_name, info_key, is_in_directory, is_info_key, is_top_key, keyed_records, top_keys, tree_records}
-use Rattle.rio_state.specs.OneMore.{keyed_bytes, HasOneMoreIn}
+use Rattle.rio_state.specs.{Closing.{KeptRecords, close_need, free_length, item_heads, kept_count, kept_with, list_length, name_in, open_count, padded_length, saved_lengths}, Contents.{file_classes}, TreeLengths.{PendingRows, put_among, save_lengths, trees_among}, Trees.{all_places_named}}
+use Rattle.rio_state.specs.KeyedRecords.{KeyedRecord, has_info_name, info_key, is_in_directory, is_info_key, is_top_key, is_tree_key, keyed_records, top_keys, tree_records}
+use Rattle.rio_state.specs.OneMore.{keyed_bytes, HasOneMoreIn, KeyIsRead}
 use Rattle.rio_effect.specs.{Laws.{NeedGrows}, More.{KeepsOneMore}}
 use Rattle.rio_state.proofs.{CloseSizes.{closing_sum}, Insertion.{filter_more}, ObjectStands.{trees_same}, KeysFollow.{items_more}, MoreRecords.{first_stays, record_more}, Stays.{info_same}}
 
@@ -75,9 +75,11 @@ pub counted_more : (info : Option KeyedRecord) (a b : List KeyHead) → length b
 counted_more None a b e = omega (arith, e)
 counted_more (Some r) a b e = omega (arith, e)
 
-pub need_grows : NeedGrows
+-- where the first record stays the first
+pub need_grows_by : (pending : PendingRows) (links : List Link) (place : ℕ) (bytes : List ℕ) (h : KeyHead) → name_in (keyed_records (with_record place bytes links)) ≡ name_in (keyed_records links)
+    → KeyIsRead place bytes h → is_top_key h ≡ true → is_tree_key h ≡ false → KeepsOneMore (kept_with pending links) (kept_with pending (with_record place bytes links)) h
 unfolding kept_with
-need_grows pending file links place bytes h chain read top object =
+need_grows_by pending links place bytes h first read top object =
     let old = keyed_records links in
     let new = keyed_records (with_record place bytes links) in
     let x = keyed_bytes h bytes in
@@ -93,5 +95,8 @@ need_grows pending file links place bytes h chain read top object =
     = λ i. length (all_places_named (file_classes (info i)) (headers i)) in
     let put : put_among (file_classes (info_key new)) pending (tree_records (top_keys new)) ≡ put_among (file_classes (info_key old)) pending (tree_records (top_keys old))
     = λ i. put_among (file_classes (info i)) pending (headers i) in
-    keeps_one_more (kept_with pending links) (kept_with pending (with_record place bytes links)) h (first_stays file links place bytes chain) heads (omega (arith, count, named, put))
+    keeps_one_more (kept_with pending links) (kept_with pending (with_record place bytes links)) h first heads (omega (arith, count, named, put))
     (λ i. trees_among (file_classes (info i)) pending (headers i))
+
+pub need_grows : NeedGrows
+need_grows pending file links place bytes h chain read top object = need_grows_by pending links place bytes h (first_stays file links place bytes chain) read top object

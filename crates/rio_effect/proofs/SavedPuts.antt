@@ -31,7 +31,7 @@ sorted_same (e ∷ es) =
     let rest = sorted_same es in
     λ i. here i && rest i
 
-as_many : (m : State) → len (saved_of m).trees ≡ len m.trees
+pub as_many : (m : State) → len (saved_of m).trees ≡ len m.trees
 unfolding saved_of
 as_many m =
     let es = changed (entries m.trees) in

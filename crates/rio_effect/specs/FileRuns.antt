@@ -1,22 +1,22 @@
 -- What commands do to a file: the records that are there after them, each with its place and bytes.
 --
 -- A command changes the records of a file in a list of steps, each at the place that the rule gives for the records before it. A put adds
--- the record of its object, a delete releases that of the object, or those of the tree; a class command adds the record of the longer class
+-- the record of its object, a batch those of its objects as one change, a delete releases that of the object, or those of the tree; a class command adds the record of the longer class
 -- list and then releases that of the one before. A tree adds its header, with a class list first where the file has none; a fill adds the
 -- baskets that don't take its entries; a save adds the open baskets and the next header, and then releases the header before. Commands that
 -- only print change nothing. A close saves each tree that has pending rows, in the order of names, before it writes anything else.
 use Rattle.std.specs.Prelude.{◌≡◌, ℕ, List, [], ◌∷◌, map, sum, Option, Some, None, is_some, if◌then◌else◌}
 use Rattle.std.specs.{FinMap.{get}, List.{find}, Option.{option_map_or}}
 use Rattle.rio_dir.specs.Table.{is_at_cycle}
-use Rattle.rio_chain.specs.{Placing.{file_end, place_of, with_segment}, Releasing.{without_segment}, Segments.{Link, segment_of}}
+use Rattle.rio_chain.specs.{Placing.{file_end, place_of, with_segment, with_segments}, Releasing.{without_segment}, Segments.{Link, segment_of}}
 use Rattle.rio_types.specs.declared.class.ClassDef.{ClassDef}
 use Rattle.rio_chain.specs.declared.segment.Segment.{Segment}
 use Rattle.rio_machine.specs.State.{State, names_tree}
-use Rattle.rio_machine.specs.declared.command.Command.{Command, TheVariants.{Bad, Class, Put, Delete, Tree, Fill, Save, Get, Scan, Ls}}
+use Rattle.rio_machine.specs.declared.command.Command.{Command, TheVariants.{Bad, Class, Put, Batch, Delete, Tree, Fill, Save, Get, Scan, Ls}}
 use Rattle.rio_step.specs.{Refusing.{FullMark, refusal_of, with_class}, Runs.{Marks, closing_saves}, Step.{state_behind, step}}
 use Rattle.rio_state.specs.{Closing.{close_need, is_full, kept_with}, KeyedRecords.{KeyedRecord, info_key, keyed_records, top_keys}, Left.{info_head}, TreeLengths.{PendingRows, pending_in}}
-use Rattle.rio_effect.specs.{ClassRecord.{list_data, list_words, next_list_cycle}, ObjectRecord.{data_of_put, words_of_put}, TreeRecords.{length_of_basket}}
-pub use Rattle.rio_effect.specs.Changes.{Change, added, added_length, added_place, all_changed, basket_added, basket_place, bytes_at, changed, lengths_of, released}
+use Rattle.rio_effect.specs.{ClassRecord.{list_data, list_words, next_list_cycle}, ObjectRecord.{data_of_put, records_of_puts, words_of_put}, TreeRecords.{length_of_basket}}
+pub use Rattle.rio_effect.specs.Changes.{Change, added, added_length, added_place, all_changed, basket_added, batch_added, batch_bytes, batch_lengths, batch_place, basket_place, bytes_at, changed, lengths_of, released}
 pub use Rattle.rio_effect.specs.TreeChanges.{FileRecords, PutBaskets, changes_of_fill, changes_of_save, changes_of_tree, changes_of_tree_delete, none_put, put_by_fill, with_put}
 
 -- ---- commands
@@ -41,6 +41,7 @@ changes_of_delete now m name cycle = if names_tree m name then changes_of_tree_d
 -- the changes of a command that isn't refused
 abbrev pub changes_of : ℕ → FileRecords → State → Command → List Change
 changes_of datime now m (Put name v) = added (words_of_put m 0 datime name v) (data_of_put m 0 datime name v) ∷ []
+changes_of datime now m (Batch puts) = batch_added (records_of_puts datime m puts) ∷ []
 changes_of datime now m (Delete name cycle) = changes_of_delete now m name cycle
 changes_of datime now m (Class class) = changes_of_class datime (info_key (keyed_records now.links)) (with_class m.classes class)
 changes_of datime now m (Tree name branches) = changes_of_tree datime now.links m name branches
@@ -121,10 +122,13 @@ RunsHaveParts = (datime : ℕ) (now : FileRecords) (m : State) (c : Command) (co
     → file_run datime now m (c ∷ commands)
     ≡ marked_before (file_step datime now m c).mark (file_run datime (file_step datime now m c).records (step m c (file_step datime now m c).mark).state commands)
 
--- what a change makes of the segments: an added record what its length does, at the place of the rule, and a release what its place does
+-- what a change makes of the segments: an added record what its length does, at the place of the rule, the records of a batch what their
+-- lengths do, at the place of the rule for their sum, and a release what its place does
 abbrev pub segments_changed : List Segment → Change → List Segment
 segments_changed segments (added words contents) =
     let n = added_length words contents in with_segment (place_of segments n) n segments
+segments_changed segments (batch_added records) =
+    let lengths = batch_lengths records in with_segments (place_of segments (sum lengths)) lengths segments
 segments_changed segments (basket_added words) =
     let n = length_of_basket words in with_segment (place_of segments n) n segments
 segments_changed segments (released place) = without_segment place segments

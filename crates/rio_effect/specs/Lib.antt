@@ -1,5 +1,6 @@
 pub mod AllItems
 pub mod BasketRuns
+pub mod Batches
 pub mod Changes
 pub mod ClassRecord
 pub mod Classes

@@ -2,6 +2,7 @@
 ghost use Rattle.rio_step.specs.Runs.{saved_of};
 ghost use Rattle.rio_effect.specs.AllItems.{ItemsStayWith, ItemsStayWithout};
 ghost use Rattle.rio_effect.specs.BasketRuns.{BasketIsPut, BasketsArePut, BasketsKeepAll};
+ghost use Rattle.rio_effect.specs.Batches.{BatchHeldGrows, BatchKeysFollow, BatchTakesEffect, BatchesHaveRecords, BatchesIgnorePending, SavedBatchKeysFollow, SavedBatchTakesEffect};
 ghost use Rattle.rio_effect.specs.Classes.{ClassHeldGrows, ClassTakesEffect, ClassesHaveRecords, ClassesIgnorePending, StatesAreDescribed};
 ghost use Rattle.rio_effect.specs.Deletes.{DeleteKeepsLess, DeleteKeyFollows, DeleteLeavesOthers, DeleteNeedsNoMore, DeleteTakesEffect, DeletesCostNothing, DeletesFindRecords, DeletesHaveRecords, DeletesIgnorePending};
 ghost use Rattle.rio_effect.specs.FileRuns.{RunsHaveParts, SegmentsFollow};
@@ -28,6 +29,20 @@ pub fn put_takes_effect()
     ensures all { PutTakesEffect }
     ensures saved { SavedPutTakesEffect }
     ensures pending { PutsIgnorePending }
+{}
+
+/// A batch that isn't refused has whole records, one after the other, each with the key of an
+/// object. With all of them a file reads as the state behind the batch, with all pending rows or
+/// without them, at which a batch doesn't look. The keys that are kept beside the file follow, and
+/// the file holds no more than by the batch's cost.
+pub fn batch_takes_effect()
+    ensures records { BatchesHaveRecords }
+    ensures all { BatchTakesEffect }
+    ensures saved { SavedBatchTakesEffect }
+    ensures pending { BatchesIgnorePending }
+    ensures keys { BatchKeysFollow }
+    ensures saved_keys { SavedBatchKeysFollow }
+    ensures held { BatchHeldGrows }
 {}
 
 /// The keys that are kept beside a file follow a put: the key of its object stands in its place

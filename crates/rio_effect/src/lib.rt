@@ -4,6 +4,8 @@
 //! - A put adds the record of its object: with it the file reads as the state after the put
 //!   ([`put_takes_effect`]), the keys that are kept beside the file follow it ([`keys_follow`]),
 //!   and what a close needs grows by what one key takes ([`need_grows`]).
+//! - A batch adds the records of its objects, one after the other, by one word: with all of them the
+//!   file reads as the state after the batch ([`batch_takes_effect`]).
 //! - A delete releases the record of its object: without it the file reads as the state after the
 //!   delete ([`delete_takes_effect`]), all other objects stay ([`delete_leaves_others`]), and a
 //!   close needs no more ([`delete_needs_no_more`]).
@@ -29,7 +31,7 @@
 //!
 //! Definitions are in `specs/`: the record of an object as a put writes it in
 //! `ObjectRecord.antt`, that of a class list in `ClassRecord.antt`, and the laws in `Laws.antt`,
-//! `Deletes.antt` and `Classes.antt`. What a whole run makes of the records of a file, with each
+//! `Batches.antt`, `Deletes.antt` and `Classes.antt`. What a whole run makes of the records of a file, with each
 //! place and byte, and which commands find no room, is one definition, `FileRuns.antt`: it speaks
 //! of all commands, and of the saves of a close ([`runs_are_told`]).
 #![tactic(auto)]
@@ -37,10 +39,10 @@
 mod laws;
 
 pub use laws::{
-    baskets_are_put, baskets_are_read, class_takes_effect, delete_leaves_others,
-    delete_needs_no_more, delete_takes_effect, fill_keeps_baskets, front_tells,
-    garbage_is_released, header_takes_effect, headers_have_records, items_stay, keys_follow,
-    keys_stand_for_state, keys_tell_next_cycle, later_header_replaces, need_grows,
+    baskets_are_put, baskets_are_read, batch_takes_effect, class_takes_effect,
+    delete_leaves_others, delete_needs_no_more, delete_takes_effect, fill_keeps_baskets,
+    front_tells, garbage_is_released, header_takes_effect, headers_have_records, items_stay,
+    keys_follow, keys_stand_for_state, keys_tell_next_cycle, later_header_replaces, need_grows,
     new_header_counts, put_takes_effect, runs_are_told, save_takes_effect,
     tree_delete_needs_no_more, tree_delete_takes_effect, tree_takes_effect,
 };

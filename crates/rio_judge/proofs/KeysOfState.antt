@@ -105,7 +105,8 @@ pub cycles_are : (heads : List KeyHead) (m : State) (name : List ℕ) → AreKey
 cycles_are heads m name are =
     ap (λ items. greatest (map (λ item. item.1) (filter (λ item. bytes_eq item.0 name) items))) (keys_are heads m are) ∙ greatest_of name heads
 
-above_none : (name : List ℕ) (n : ℕ) (heads : List KeyHead) → greatest_cycle name heads < n → find (is_at_cycle name n) heads ≡ None
+-- no key has a cycle above the greatest of its name
+pub above_none : (name : List ℕ) (n : ℕ) (heads : List KeyHead) → greatest_cycle name heads < n → find (is_at_cycle name n) heads ≡ None
 above_none name n [] below = refl
 above_none name n (h ∷ hs) below = by (bytes_eq h.name name) (above_none name n hs) below
   where

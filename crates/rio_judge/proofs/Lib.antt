@@ -1,14 +1,17 @@
 pub mod AllWork
+pub mod BatchLaws
 pub mod ClassLaws
 pub mod ClassTests
 pub mod DeclaredAgain
 pub mod Divided
 pub mod DeleteTests
+pub mod Finding
 pub mod GetTests
 pub mod ItemsOfState
 pub mod KeyStates
 pub mod KeysOfState
 pub mod LengthLaws
+pub mod LowestLaws
 pub mod PutLaws
 pub mod PutTests
 pub mod RowTests

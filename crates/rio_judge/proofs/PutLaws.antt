@@ -1,42 +1,44 @@
 -- A put that passes all tests can be done, and does what the state's step does.
-use Rattle.std.proofs.Common.{◌≡◌, ℕ, ◌+◌, ◌∙◌, List, [], ◌∷◌, length, false, ◌||◌, ltb, leb, not, Some, None, Ok, refl, sym, ap, subst, arith}
-use Rattle.std.proofs.lemmas.Bool.{le-ltb, leb-false, lt-leb, ltb-false, not-false, or_from, or_parts}
-use Rattle.std.specs.{Prelude.{is_some, unwrap_or}, Option.{option_or}}
+use Rattle.std.proofs.Common.{◌≡◌, ℕ, ◌+◌, ◌∙◌, List, [], length, leb, not, Option, None, Some, Result, Ok, Err, refl, sym, ap, subst, arith}
+use Rattle.std.proofs.lemmas.Bool.{leb-false, ltb-false, not-false}
+use Rattle.std.specs.{Prelude.{unwrap_or}, Option.{option_or}}
 use Rattle.rio_key.specs.declared.head.KeyHead.{KeyHead}
 use Rattle.rio_dir.specs.Table.{greatest_cycle, head_of}
 use Rattle.rio_types.specs.declared.class.ClassDef.{ClassDef}
 use Rattle.rio_value.specs.declared.value.Value.{Value}
 use Rattle.rio_format.specs.Written.{written_form}
 use Rattle.rio_model.specs.Resolving.{resolved}
-use Rattle.rio_machine.specs.{Limits.{cycle_limit, data_length, has_long_list, is_too_deep, is_too_long, item_limit}, State.{State}}
+use Rattle.rio_machine.specs.{Limits.{data_length, has_long_list, is_too_deep, is_too_long, item_limit}, State.{State, next_cycle}}
 use Rattle.rio_machine.specs.declared.command.Command.TheVariants.{Put}
-use Rattle.rio_machine.specs.declared.refusal.Refusal.TheVariants.{BadName, NameIsTree, NoSuchClass, DoesNotFit, CycleLimit, TooLarge, TooDeep, TooMany}
+use Rattle.rio_machine.specs.declared.refusal.Refusal.{Refusal, TheVariants.{BadName, NoSuchClass, DoesNotFit, CycleLimit, TooLarge, TooDeep, TooMany}}
 use Rattle.rio_tree_table.specs.{Table.{tree_of}, declared.table.KeptTree.{KeptTree}}
-use Rattle.rio_step.specs.{KeptItems.{AreItemsOfState}, Refusing.{first_of, is_fit, is_kept_out, is_list_name, object_class, put_value, refused_if}}
-use Rattle.rio_judge.specs.{Judging.{CanBeStored, IsStep}, Stops.{GoesByState}, declared.work.{StoredObject.{StoredObject}, Work.TheVariants.{Put as Storing}}}
+use Rattle.rio_step.specs.{KeptItems.{AreItemsOfState}, Refusing.{first_of, is_fit, is_kept_out, is_list_name, object_class, refusal_of}}
+use Rattle.rio_judge.specs.Judging.{CanBePut, CanBeStored, IsStep}
+use Rattle.rio_judge.specs.{Stops.{GoesByState, StopsAt, object_tests}, declared.stop.Stop.{Stop}, declared.work.{StoredObject.{StoredObject}, Work.{Work, TheVariants.{Put as Storing}}}}
 use Rattle.rio_judge.proofs.{ItemsOfState.{names_objects}, KeysOfState.{next_is_new}}
-use Rattle.rio_judge.proofs.PutTests.{count_tests, cycle_tests, fit_tests, name_tests, put_refusal, put_tests}
-use Rattle.rio_judge.proofs.TestsInOrder.{passes_one, passes_two}
+use Rattle.rio_judge.proofs.PutTests.{count_tests, cycle_tests, fit_tests, item_tests, name_tests, own_length_tests, put_refusal}
+use Rattle.rio_judge.proofs.TestsInOrder.{passes_one, passes_two, stops_first, stops_then}
 
-module _ (classes : List ClassDef) (heads : List KeyHead) (v : Value) (o : StoredObject) where
+-- ---- an object behind so many puts of its name
+
+module _ (classes : List ClassDef) (heads : List KeyHead) (before : ℕ) (v : Value) (o : StoredObject) where
   -- what was found on the way, and that no test stopped
   pub record Passed : Type 0 where
     pub value : resolved classes v ≡ Some o.value
     pub class : object_class o.value ≡ Some o.class
-    pub cycle : o.cycle ≡ greatest_cycle o.name heads + 1
+    pub cycle : o.cycle ≡ greatest_cycle o.name heads + 1 + before
     pub written : (start : ℕ) → o.length ≡ length (written_form classes start o.value)
     pub by_name : first_of (name_tests o.name) ≡ None
     pub by_fit : first_of (fit_tests classes o.value) ≡ None
-    pub by_cycle : first_of (cycle_tests heads o.name) ≡ None
-    pub by_length : first_of (refused_if (is_too_long (data_length classes o.class o.name o.value)) TooLarge ∷ []) ≡ None
-    pub by_counts : first_of (count_tests heads o.value) ≡ None
+    pub by_cycle : first_of (cycle_tests heads o.name before) ≡ None
+    pub by_length : first_of (own_length_tests classes o.class o.name o.value) ≡ None
+    pub by_counts : first_of (count_tests o.value) ≡ None
 
-  pub can_be_stored : Passed → CanBeStored classes heads v o
-  can_be_stored p =
+  pub can_be_put : Passed → CanBePut classes heads before v o
+  can_be_put p =
       let fit = passes_two (is_kept_out classes o.value) (not (is_fit classes o.value)) NoSuchClass DoesNotFit p.by_fit in
       let below = ltb-false _ _ (passes_one _ CycleLimit p.by_cycle) in
-      let counts = passes_two (is_too_deep o.value) (has_long_list o.value || leb item_limit (length heads)) TooDeep TooMany p.by_counts in
-      let many = or_parts (has_long_list o.value) (leb item_limit (length heads)) counts.1 in
+      let counts = passes_two (is_too_deep o.value) (has_long_list o.value) TooDeep TooMany p.by_counts in
       let short = passes_one (is_too_long (data_length classes o.class o.name o.value)) TooLarge p.by_length in
       record {
         value = p.value;
@@ -46,49 +48,75 @@ module _ (classes : List ClassDef) (heads : List KeyHead) (v : Value) (o : Store
           fit = not-false _ fit.1;
           short = ap (λ c. is_too_long (data_length classes (unwrap_or c []) o.name o.value)) p.class ∙ short;
           shallow = counts.0;
-          few = many.0;
+          few = counts.1;
         };
         written = p.written;
         free = passes_one (is_list_name o.name) BadName p.by_name;
         cycle = p.cycle;
         last = omega (arith, below, p.cycle);
-        new = ap (λ n. head_of o.name (Some n) heads) p.cycle ∙ next_is_new o.name heads;
-        room = leb-false _ _ many.1;
       }
 
-  module _ (trees : List KeptTree) (apart : tree_of o.name trees ≡ None) (s : CanBeStored classes heads v o) where
-    none_tells : first_of (put_tests classes heads trees o.name v o.value) ≡ None
-    none_tells =
-        let known : not (is_some (resolved classes v)) ≡ false = ap (λ x. not (is_some x)) s.value in
-        let unfit : not (is_fit classes o.value) ≡ false = ap not s.object.fit in
-        let cycle : ltb cycle_limit (greatest_cycle o.name heads + 1) ≡ false = le-ltb _ _ (omega (arith, s.last, s.cycle)) in
-        let many : (has_long_list o.value || leb item_limit (length heads)) ≡ false = or_from _ _ s.object.few (lt-leb _ _ s.room) in
-        λ i. option_or (refused_if (s.free i) BadName)
-        (option_or (refused_if (is_some (apart i)) NameIsTree)
-        (option_or (refused_if (known i) NoSuchClass)
-        (option_or (refused_if (s.object.taken i) NoSuchClass)
-        (option_or (refused_if (unfit i) DoesNotFit)
-        (option_or (refused_if (cycle i) CycleLimit)
-        (option_or (refused_if (s.object.short i) TooLarge)
-        (option_or (refused_if (s.object.shallow i) TooDeep)
-        (option_or (refused_if (many i) TooMany) None))))))))
+-- it is what the step stores, in a state with so many objects more of the name
+pub step_behind : (heads : List KeyHead) (trees : List KeptTree) (m n : State) (before : ℕ) (v : Value) (o : StoredObject) → AreItemsOfState heads trees m
+    → tree_of o.name trees ≡ None → n.classes ≡ m.classes → next_cycle n o.name ≡ next_cycle m o.name + before → CanBePut m.classes heads before v o → IsStep n v o
+step_behind heads trees m n before v o are apart same counted p =
+    let last = (names_objects heads trees m are o.name apart).last in
+    record {
+      value = sym (ap (λ (x : Option Value). unwrap_or x v) p.value) ∙ ap (λ (cs : List ClassDef). unwrap_or (resolved cs v) v) (sym same);
+      class = p.class;
+      cycle = p.cycle ∙ ap (λ (k : ℕ). k + 1 + before) (sym last) ∙ sym counted;
+      written = p.written 0 ∙ ap (λ (cs : List ClassDef). length (written_form cs 0 o.value)) (sym same);
+    }
 
--- it does what the step does
-pub stores_as_step : (heads : List KeyHead) (trees : List KeptTree) (m : State) (v : Value) (o : StoredObject) → AreItemsOfState heads trees m → tree_of o.name trees ≡ None → CanBeStored m.classes heads v o → GoesByState m (Put o.name v) (Ok (Storing o))
-stores_as_step heads trees m v o are apart s =
-    let value : put_value m v ≡ o.value = ap (λ x. unwrap_or x v) s.value in
-    let none = put_refusal heads trees m o.name v are ∙ ap (λ w. first_of (put_tests m.classes heads trees o.name v w)) value ∙ none_tells m.classes heads v o trees apart s in
-    let step : IsStep m v o = record {
-      value = sym value;
-      class = s.class;
-      cycle = s.cycle ∙ ap (λ n. n + 1) (sym (names_objects heads trees m are o.name apart).last);
-      written = s.written 0;
-    } in
-    (none, (refl, step))
+-- ---- a put
 
--- for each state that has the classes and for whose items the keys and trees stand
-pub put_answers : (classes : List ClassDef) (heads : List KeyHead) (trees : List KeptTree) (name : List ℕ) (v : Value) (o : StoredObject) → o.name ≡ name → tree_of name trees ≡ None → CanBeStored classes heads v o
-    → (m : State) → m.classes ≡ classes → AreItemsOfState heads trees m → GoesByState m (Put name v) (Ok (Storing o))
-put_answers classes heads trees name v o named apart s m same are =
-    subst (λ (n : List ℕ). GoesByState m (Put n v) (Ok (Storing o))) named
-    (stores_as_step heads trees m v o are (ap (λ n. tree_of n trees) named ∙ apart) (subst (λ (cs : List ClassDef). CanBeStored cs heads v o) (sym same) s))
+-- alone it can be stored, where there is room for one item more
+pub can_be_stored : (classes : List ClassDef) (heads : List KeyHead) (v : Value) (o : StoredObject) → CanBePut classes heads 0 v o → first_of (item_tests heads) ≡ None
+    → CanBeStored classes heads v o
+can_be_stored classes heads v o p room =
+    let cycle : o.cycle ≡ greatest_cycle o.name heads + 1 = omega (arith, p.cycle) in
+    record {
+      value = p.value;
+      class = p.class;
+      object = p.object;
+      written = p.written;
+      free = p.free;
+      cycle = cycle;
+      last = p.last;
+      new = ap (λ n. head_of o.name (Some n) heads) cycle ∙ next_is_new o.name heads;
+      room = leb-false _ _ (passes_one (leb item_limit (length heads)) TooMany room);
+    }
+
+module _ (classes : List ClassDef) (heads : List KeyHead) (trees : List KeptTree) (name : List ℕ) (v : Value) where
+  -- for each state that has the classes and for whose items the keys and trees stand
+  abbrev pub PutGoes : Result Work Stop → Type 0
+  PutGoes r = (m : State) → m.classes ≡ classes → AreItemsOfState heads trees m → GoesByState m (Put name v) r
+
+  abbrev first_refusal : Option Refusal
+  first_refusal = option_or (first_of (object_tests classes heads trees name v 0)) (first_of (item_tests heads))
+
+  refusal_is : (m : State) → m.classes ≡ classes → AreItemsOfState heads trees m → refusal_of m (Put name v) None ≡ first_refusal
+  refusal_is m same are =
+      put_refusal heads trees m name v are ∙ ap (λ (cs : List ClassDef). option_or (first_of (object_tests cs heads trees name v 0)) (first_of (item_tests heads))) same
+
+  module _ (r : Result Work Stop) (d stop : Stop) (is : r ≡ Err d) (goes_on : d ≡ stop) where
+    -- what is returned is where it stopped
+    put_stopped : StopsAt first_refusal stop → PutGoes r
+    put_stopped told m same are =
+        subst (λ (x : Result Work Stop). GoesByState m (Put name v) x) (sym (is ∙ ap (λ x. Err x) goes_on))
+        (subst (λ (first : Option Refusal). StopsAt first stop) (sym (refusal_is m same are)) told)
+
+    pub stopped_by_object : StopsAt (first_of (object_tests classes heads trees name v 0)) stop → PutGoes r
+    stopped_by_object told = put_stopped (stops_first (first_of (object_tests classes heads trees name v 0)) (first_of (item_tests heads)) stop told)
+
+    pub stopped_by_items : first_of (object_tests classes heads trees name v 0) ≡ None → StopsAt (first_of (item_tests heads)) stop → PutGoes r
+    stopped_by_items passed told = put_stopped (stops_then (first_of (object_tests classes heads trees name v 0)) (first_of (item_tests heads)) stop passed told)
+
+  -- it does what the step does
+  pub put_goes : (o : StoredObject) → o.name ≡ name → tree_of name trees ≡ None → CanBePut classes heads 0 v o
+      → first_of (object_tests classes heads trees name v 0) ≡ None → first_of (item_tests heads) ≡ None → PutGoes (Ok (Storing o))
+  put_goes o named apart p passed room m same are =
+      let none : refusal_of m (Put name v) None ≡ None = refusal_is m same are ∙ ap (λ (x : Option Refusal). option_or x (first_of (item_tests heads))) passed ∙ room in
+      let alone = ap (λ n. tree_of n trees) named ∙ apart in
+      let counted : next_cycle m o.name ≡ next_cycle m o.name + 0 = omega arith in
+      (none, (named, step_behind heads trees m m 0 v o are alone refl counted (subst (λ (cs : List ClassDef). CanBePut cs heads 0 v o) (sym same) p)))

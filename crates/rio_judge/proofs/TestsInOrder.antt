@@ -1,5 +1,6 @@
 -- Tests that can refuse a command, one after the other: the first that gives a refusal stops it.
-use Rattle.std.proofs.Common.{◌≡◌, List, [], ◌∷◌, ◌++◌, Bool, true, false, Option, Some, None, refl, sym, subst, ◌∙◌}
+use Rattle.std.proofs.Common.{◌≡◌, List, [], ◌∷◌, ◌++◌, Bool, true, false, ◌||◌, Option, Some, None, refl, sym, ap, subst, ◌∙◌}
+use Rattle.std.specs.Option.{option_or}
 use Rattle.rio_machine.specs.declared.refusal.Refusal.{Refusal}
 use Rattle.rio_step.specs.Refusing.{first_of, refused_if}
 use Rattle.rio_judge.specs.{Stops.{StopsAt}, declared.stop.Stop.{Stop, TheVariants.{Refused, NoMemory}}}
@@ -34,3 +35,18 @@ passes_two false b one two e = (refl, passes_one b two e)
 pub passes_three : (a b c : Bool) (one two three : Refusal) → first_of (refused_if a one ∷ refused_if b two ∷ refused_if c three ∷ []) ≡ None → (a ≡ false) × (b ≡ false) × (c ≡ false)
 passes_three true b c one two three e = absurd cc
 passes_three false b c one two three e = let later = passes_two b c two three e in (refl, later.0, later.1)
+
+-- one test of two things is two tests
+pub one_by_one : (a b : Bool) (refusal : Refusal) (rest : Option Refusal)
+    → option_or (refused_if (a || b) refusal) rest ≡ option_or (refused_if a refusal) (option_or (refused_if b refusal) rest)
+one_by_one true b refusal rest = refl
+one_by_one false b refusal rest = refl
+
+-- what stops by a test stops where others stand behind it
+pub stops_first : (x y : Option Refusal) (stop : Stop) → StopsAt x stop → StopsAt (option_or x y) stop
+stops_first x y NoMemory told = tt
+stops_first x y (Refused refusal) told = ap (λ (o : Option Refusal). option_or o y) told
+
+-- and by a later one, where the first gives none
+pub stops_then : (x y : Option Refusal) (stop : Stop) → x ≡ None → StopsAt y stop → StopsAt (option_or x y) stop
+stops_then x y stop none told = subst (λ (o : Option Refusal). StopsAt (option_or o y) stop) (sym none) told

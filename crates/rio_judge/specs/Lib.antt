@@ -1,3 +1,4 @@
 pub mod Judging
+pub mod Lowest
 pub mod Stops
 pub mod Trees

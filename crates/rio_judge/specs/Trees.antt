@@ -1,5 +1,5 @@
 -- What is found of a command where trees are kept.
-use Rattle.std.specs.{Prelude.{◌≡◌, ◌<◌, ℕ, List, [], length, map, Bool, true, false, ◌==◌, Option, Some, None, IsSome, option_and_then, if◌then◌else◌}, FinMap.{get}, List.{filter, list_any}, Option.{option_map_or}}
+use Rattle.std.specs.{Prelude.{◌≡◌, ◌<◌, ℕ, List, [], length, map, Bool, true, false, ◌==◌, Option, Some, None, IsSome, is_some, option_and_then, if◌then◌else◌}, FinMap.{get}, List.{filter, list_any}, Option.{option_map_or}}
 use Rattle.rio_key.specs.declared.head.KeyHead.{KeyHead}
 use Rattle.rio_dir.specs.Table.{AreOrdered, head_of}
 use Rattle.rio_leaf.specs.declared.branch.BranchDef.{BranchDef}
@@ -7,7 +7,7 @@ use Rattle.rio_types.specs.declared.{class.Base.{Base}, class.ClassDef.{ClassDef
 use Rattle.rio_model.specs.Resolving.{is_known_version, resolved_row}
 use Rattle.rio_tree_table.specs.{Table.{AreOrdered as AreTreesOrdered, tree_of}, declared.table.KeptTree.{KeptTree}}
 use Rattle.rio_machine.specs.{Limits.{cycle_limit, has_long_entry, has_many_branches, item_limit}, Rows.{row_fits}, State.{Row, State}}
-use Rattle.rio_machine.specs.declared.command.Command.{Command, TheVariants.{Put, Delete, Tree as MakeTree, Fill, Save, Get, Scan}}
+use Rattle.rio_machine.specs.declared.command.Command.{Command, TheVariants.{Put, Batch, Delete, Tree as MakeTree, Fill, Save, Get, Scan}}
 use Rattle.rio_machine.specs.declared.refusal.Refusal.{Refusal}
 use Rattle.rio_machine.specs.declared.entry_fault.EntryFault.{EntryFault, TheVariants.{BadRow, TooLarge}}
 use Rattle.rio_step.specs.{ItemKeys.{AreKeysOfState}, KeptItems.{AreItemsOfState, is_tree_key}}
@@ -86,9 +86,10 @@ TreeWorkCanBeDone classes heads trees (Delete name cycle) (Deleting h) = IsTreeK
 TreeWorkCanBeDone classes heads trees (Scan name class) (Telling h asked) = IsTreeKeyOf heads trees name h × (asked ≡ class) × IsVersionKnown classes class
 TreeWorkCanBeDone classes heads trees other work = ⊥
 
--- no tree has the name of the object that a command stores, deletes or tells
+-- no tree has the name of an object that a command stores, deletes or tells
 abbrev pub HasNoTree : List KeptTree → Command → Type 0
 HasNoTree trees (Put name v) = tree_of name trees ≡ None
+HasNoTree trees (Batch puts) = list_any (λ p. is_some (tree_of p.name trees)) puts ≡ false
 HasNoTree trees (Delete name cycle) = tree_of name trees ≡ None
 HasNoTree trees (Get name cycle version) = tree_of name trees ≡ None
 HasNoTree trees other = Unit {0}

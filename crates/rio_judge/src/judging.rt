@@ -6,6 +6,7 @@ ghost use Rattle.rio_judge.specs.Judging.{IsJudgementOfStates, IsSoundJudgement,
 ghost use Rattle.rio_judge.specs.Stops.{GoesByItems, GoesByTree, as_item, as_tree};
 ghost use Rattle.rio_judge.specs.Trees.{AnyWorkCanBeDone, IsJudgementOfItems, IsSoundWithTrees, TreeWorkCanBeDone, is_tree_verb};
 
+use crate::batch::batch_work;
 use crate::class::class_work;
 use crate::delete::delete_work;
 use crate::get::get_work;
@@ -139,6 +140,10 @@ fn work_of(
         Command::Put { name, value } => {
             let classes = registry.classes();
             as_item(put_work(alloc, classes, table, trees, name.as_slice(), value))
+        }
+        Command::Batch { puts } => {
+            let classes = registry.classes();
+            as_item(batch_work(alloc, classes, table, trees, puts.as_slice()))
         }
         Command::Delete { name, cycle } => delete_work(table, trees, name.as_slice(), *cycle),
         Command::Get {

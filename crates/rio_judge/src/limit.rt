@@ -15,6 +15,9 @@ pub(crate) const LIST_LIMIT: u64 = 100_000;
 /// The most objects and trees of a file.
 pub(crate) const ITEM_LIMIT: usize = 100_000;
 
+/// The most puts of a batch.
+pub(crate) const BATCH_LIMIT: usize = 1_000;
+
 /// The most branches of a tree.
 pub(crate) const BRANCH_LIMIT: usize = 64;
 

@@ -1,5 +1,5 @@
 //! Whether a put is refused.
-ghost use Rattle.std.specs.Prelude.{◌≡◌, ◌≤◌, ℕ, ◌+◌, ◌∷◌, [], length, Some, None, IfOk, is_some, not, nat_le, nat_lt, ◌||◌};
+ghost use Rattle.std.specs.Prelude.{◌≡◌, ◌≤◌, ℕ, ◌+◌, ◌∷◌, [], length, Some, None, IfOk, is_some, not, nat_le, nat_lt};
 ghost use Rattle.std.specs.Option.{option_copied};
 ghost use Rattle.rio_dir.specs.Table.{greatest_cycle};
 ghost use Rattle.rio_format.specs.Written.{written_form};
@@ -11,8 +11,8 @@ ghost use Rattle.rio_model.specs.Resolving.{resolved};
 ghost use Rattle.rio_step.specs.KeptItems.{AreItemsOfState};
 ghost use Rattle.rio_step.specs.Refusing.{is_fit, is_kept_out, object_class, refused_if};
 ghost use Rattle.rio_tree_table.specs.Table.{tree_of};
-ghost use Rattle.rio_judge.specs.Judging.{WorkCanBeDone};
-ghost use Rattle.rio_judge.specs.Stops.{GoesByState, GoesByTests};
+ghost use Rattle.rio_judge.specs.Judging.{CanBePut, WorkCanBeDone};
+ghost use Rattle.rio_judge.specs.Stops.{GoesByState, GoesByTests, object_tests};
 
 use crate::key::{check_name, check_no_tree};
 use crate::limit::{CYCLE_LIMIT, DEPTH_LIMIT, ITEM_LIMIT, LENGTH_LIMIT, LIST_LIMIT};
@@ -67,15 +67,15 @@ fn taken_class(alloc: Global, classes: &Classes, value: &Value) -> Result<Name, 
     Ok(class.copy()?)
 }
 
-// The next cycle of a name.
-fn next_cycle(table: &KeyTable, name: &[u8]) -> Result<u16, Stop>
-    ensures cycle { IfOk result (λ n. n ≡ greatest_cycle name.now table.now.heads + 1) }
+// The cycle that a name gets behind so many puts of it.
+fn cycle_behind(table: &KeyTable, name: &[u8], before: u64) -> Result<u16, Stop>
+    ensures cycle { IfOk result (λ n. n ≡ greatest_cycle name.now table.now.heads + 1 + before) }
     ensures told { GoesByTests
-        (refused_if (nat_lt cycle_limit (greatest_cycle name.now table.now.heads + 1))
+        (refused_if (nat_lt cycle_limit (greatest_cycle name.now table.now.heads + 1 + before))
         Refusing.CycleLimit ∷ []) result }
 {
-    let cycle = table.next_cycle(name);
-    if cycle > CYCLE_LIMIT {
+    let cycle = u64::from(table.next_cycle(name)).saturating_add(before);
+    if cycle > u64::from(CYCLE_LIMIT) {
         return Err(Stop::Refused(Refusal::CycleLimit));
     }
     Ok(cycle as u16)
@@ -111,19 +111,62 @@ fn short_length(
     Ok(length as u32)
 }
 
-// Nothing is too deep or too many.
-fn check_counts(table: &KeyTable, value: &Value) -> Result<(), Stop>
+// The value isn't too deep, and has no list that is too long.
+fn check_counts(value: &Value) -> Result<(), Stop>
     ensures { GoesByTests (refused_if (is_too_deep value.now) Refusing.TooDeep
-        ∷ refused_if (has_long_list value.now || nat_le item_limit (length table.now.heads))
-        Refusing.TooMany ∷ []) result }
+        ∷ refused_if (has_long_list value.now) Refusing.TooMany ∷ []) result }
 {
     if depth(value) > DEPTH_LIMIT {
         return Err(Stop::Refused(Refusal::TooDeep));
     }
-    if longest_list(value) > LIST_LIMIT || table.count() >= ITEM_LIMIT {
+    if longest_list(value) > LIST_LIMIT {
         return Err(Stop::Refused(Refusal::TooMany));
     }
     Ok(())
+}
+
+// There is room for one more item.
+fn check_items(table: &KeyTable) -> Result<(), Stop>
+    ensures { GoesByTests (refused_if (nat_le item_limit (length table.now.heads))
+        Refusing.TooMany ∷ []) result }
+{
+    if table.count() >= ITEM_LIMIT {
+        return Err(Stop::Refused(Refusal::TooMany));
+    }
+    Ok(())
+}
+
+/// The object that a put of the value under the name stores behind so many puts of the name, or the
+/// first refusal, in the order of their numbers. How many items there are isn't asked.
+pub(crate) fn stored_object(
+    alloc: Global,
+    classes: &Classes,
+    table: &KeyTable,
+    trees: &TreeTable,
+    name: &[u8],
+    value: &Value,
+    before: u64,
+) -> Result<StoredObject, Stop>
+    ensures told { GoesByTests (object_tests classes.now table.now.heads trees.now.trees
+        name.now value.now before) result }
+    ensures named { IfOk result (λ object. object.name ≡ name.now) }
+    ensures can { IfOk result (CanBePut classes.now table.now.heads before value.now) }
+{
+    check_name(name)?;
+    check_no_tree(trees, name)?;
+    let value = known_value(alloc, classes, value)?;
+    let class = taken_class(alloc, classes, &value)?;
+    let cycle = cycle_behind(table, name, before)?;
+    let length = short_length(alloc, classes, class.as_slice(), name, &value)?;
+    check_counts(&value)?;
+    let name = Name::from_slice(alloc, name)?;
+    Ok(StoredObject {
+        name,
+        class,
+        cycle,
+        length,
+        value,
+    })
 }
 
 /// What a put of the value under the name is to do, or the first refusal, in the order of their
@@ -143,19 +186,7 @@ pub(crate) fn put_work(
         (Command.Put name.now value.now)) }
     ensures no_tree { IfOk result (λ _. tree_of name.now trees.now.trees ≡ None) }
 {
-    check_name(name)?;
-    check_no_tree(trees, name)?;
-    let value = known_value(alloc, classes, value)?;
-    let class = taken_class(alloc, classes, &value)?;
-    let cycle = next_cycle(table, name)?;
-    let length = short_length(alloc, classes, class.as_slice(), name, &value)?;
-    check_counts(table, &value)?;
-    let name = Name::from_slice(alloc, name)?;
-    Ok(Work::Put(StoredObject {
-        name,
-        class,
-        cycle,
-        length,
-        value,
-    }))
+    let object = stored_object(alloc, classes, table, trees, name, value, 0)?;
+    check_items(table)?;
+    Ok(Work::Put(object))
 }

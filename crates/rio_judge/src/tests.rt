@@ -12,6 +12,7 @@ use rio_valtext::read_value;
 use rio_value::Value;
 use std::alloc::Global;
 
+mod batches;
 mod declarations;
 mod limits;
 mod rows;
@@ -58,7 +59,7 @@ pub(crate) enum Found {
 
 fn cycle_of(work: &Work) -> u16 {
     match work {
-        Work::Class(_) | Work::Ls => 0,
+        Work::Class(_) | Work::Batch(_) | Work::Ls => 0,
         Work::Put(object) => object.cycle,
         Work::Delete(head) | Work::Get { head, .. } => head.cycle,
     }
@@ -68,7 +69,7 @@ fn length_of(work: &Work) -> u32 {
     match work {
         Work::Class(new) => new.length,
         Work::Put(object) => object.length,
-        Work::Delete(_) | Work::Get { .. } | Work::Ls => 0,
+        Work::Batch(_) | Work::Delete(_) | Work::Get { .. } | Work::Ls => 0,
     }
 }
 

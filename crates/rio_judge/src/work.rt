@@ -2,7 +2,7 @@
 use rio_key::KeyHead;
 use rio_leaf::BranchDefs;
 use rio_machine::Refusal;
-use rio_num::Name;
+use rio_num::{Items, Name};
 use rio_types::{Base, ClassDef};
 use rio_value::{Value, Values};
 
@@ -21,6 +21,9 @@ pub struct StoredObject {
     pub value: Value,
 }
 
+/// Objects that are to be stored, one after the other.
+pub type StoredObjects = Items<StoredObject>;
+
 /// A class that is to be declared.
 #[derive(Drop)]
 pub struct NewClass {
@@ -37,6 +40,8 @@ pub enum Work {
     Class(NewClass),
     /// Stores an object.
     Put(StoredObject),
+    /// Stores objects, all of them or none.
+    Batch(StoredObjects),
     /// Deletes the object of this key, which is there.
     Delete(KeyHead),
     /// Prints the object of this key, which is there: as it is, or in this version of its class.

@@ -16,6 +16,10 @@ cycle_limit = 32767
 abbrev pub item_limit : ℕ
 item_limit = 100000
 
+-- the puts of a batch
+abbrev pub batch_limit : ℕ
+batch_limit = 1000
+
 -- the values of a list
 abbrev pub list_limit : ℕ
 list_limit = 100000
@@ -57,6 +61,10 @@ has_long_list v = nat_lt list_limit (longest_list_of v)
 -- there is no room for one more object or tree
 abbrev pub has_all_items : State → Bool
 has_all_items m = nat_le item_limit (item_count m)
+
+-- there is no room for so many more
+abbrev pub lacks_items : State → ℕ → Bool
+lacks_items m n = nat_lt item_limit (item_count m + n)
 
 abbrev pub has_many_leaves : Shape → Bool
 has_many_leaves (Leaves leaves) = nat_lt leaf_limit (length leaves)

@@ -22,6 +22,10 @@ pub enum Command {
         name: Name,
         value: Value,
     },
+    /// Stores several objects, each in the next cycle of its name: all of them, or none.
+    Batch {
+        puts: Puts,
+    },
     /// Takes an object or a tree away.
     Delete {
         name: Name,
@@ -56,6 +60,16 @@ pub enum Command {
     /// Tells the names of all objects and trees.
     Ls,
 }
+
+/// One put of a batch.
+#[derive(Drop)]
+pub struct PutItem {
+    pub name: Name,
+    pub value: Value,
+}
+
+/// The puts of a batch.
+pub type Puts = Items<PutItem>;
 
 /// A list of commands.
 pub type Commands = Items<Command>;

@@ -14,7 +14,7 @@ mod laws;
 mod print;
 mod refusal;
 
-pub use command::{Command, Commands, Outcome};
+pub use command::{Command, Commands, Outcome, PutItem, Puts};
 pub use entry_fault::EntryFault;
 pub use laws::orders_are_total;
 pub use print::print_refusal;

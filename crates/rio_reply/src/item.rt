@@ -1,7 +1,8 @@
 //! Parts of replies: names with their cycles.
-ghost use Rattle.std.specs.Prelude.{◌≡◌, ◌++◌, OnOk};
+ghost use Rattle.std.specs.Prelude.{◌≡◌, ◌++◌, codes, map, OnOk};
 ghost use Rattle.rio_num.specs.Printed.{item_text};
 ghost use Rattle.std.specs.List.{flat_map};
+ghost use Rattle.rio_step.specs.KeptItems.{item_of_key};
 ghost use Rattle.rio_reply.specs.Told.{item_line, listed_line, tree_line};
 
 use rio_key::KeyHead;
@@ -15,6 +16,18 @@ pub fn put_item(text: &mut Bytes, name: &[u8], cycle: u16) -> Result<(), NoMemor
     text.put_name(name)?;
     text.put(b";")?;
     text.put_decimal(u64::from(cycle))
+}
+
+// ` NAME;CYCLE` of each of these keys.
+pub(crate) fn put_names(text: &mut Bytes, heads: &[KeyHead]) -> Result<(), NoMemory>
+    ensures { OnOk result (text.new.bytes ≡ text.old.bytes
+        ++ flat_map (λ item. codes " " ++ item_text item.0 item.1) (map item_of_key heads.now)) }
+{
+    for head in heads {
+        text.put(b" ")?;
+        put_item(text, head.name.as_slice(), head.cycle)?;
+    }
+    Ok(())
 }
 
 // The line of an object in a listing.

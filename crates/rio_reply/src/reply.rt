@@ -1,13 +1,13 @@
 //! Replies to commands, as they are said.
-ghost use Rattle.std.specs.Prelude.{◌≡◌, IfOk};
+ghost use Rattle.std.specs.Prelude.{◌≡◌, map, IfOk};
 ghost use Rattle.rio_machine.specs.State.{State};
 ghost use Rattle.rio_step.specs.ItemKeys.{AreKeysOfState};
-ghost use Rattle.rio_step.specs.KeptItems.{AreItemsOfState};
+ghost use Rattle.rio_step.specs.KeptItems.{AreItemsOfState, item_of_key};
 ghost use Rattle.rio_step.specs.ReplyText.{text_of};
-ghost use Rattle.rio_step.specs.Step.{class_declared, item_deleted, items_listed, items_of, object_put, refused, row_added, rows_saved, tree_made};
+ghost use Rattle.rio_step.specs.Step.{class_declared, item_deleted, items_listed, items_of, object_put, objects_put, refused, row_added, rows_saved, tree_made};
 ghost use Rattle.rio_reply.specs.Told.{item_listing_of, listing_of};
 
-use crate::item::{put_item, put_items, put_listed};
+use crate::item::{put_item, put_items, put_listed, put_names};
 use rio_key::KeyHead;
 use rio_machine::{Refusal, print_refusal};
 use rio_num::{Boxed, Bytes, NoMemory};
@@ -32,6 +32,19 @@ pub fn put_reply(alloc: Global, name: &[u8], cycle: u16) -> Result<Bytes, NoMemo
     let mut text = Bytes::new(alloc);
     text.put(b"ok put ")?;
     put_item(&mut text, name, cycle)?;
+    text.put(b"\n")?;
+    Ok(text)
+}
+
+/// What is said of the objects of a batch, by their keys in the order of its puts: `ok batch`, and for each ` NAME;CYCLE`.
+#[tactic(auto, unfolding(rio_step::specs::ReplyText::text_of))]
+pub fn batch_reply(alloc: Global, heads: &[KeyHead]) -> Result<Bytes, NoMemory>
+    ensures { IfOk result
+        (λ text. text.bytes ≡ text_of (objects_put (map item_of_key heads.now))) }
+{
+    let mut text = Bytes::new(alloc);
+    text.put(b"ok batch")?;
+    put_names(&mut text, heads)?;
     text.put(b"\n")?;
     Ok(text)
 }

@@ -1,7 +1,8 @@
 //! Replies as they are said.
 use crate::{
-    class_reply, delete_reply, fill_reply, get_reply, get_reply_as, item_listing_reply,
-    listing_reply, put_reply, put_row_line, put_scan_start, refusal_reply, save_reply, tree_reply,
+    batch_reply, class_reply, delete_reply, fill_reply, get_reply, get_reply_as,
+    item_listing_reply, listing_reply, put_reply, put_row_line, put_scan_start, refusal_reply,
+    save_reply, tree_reply,
 };
 use rio_key::KeyHead;
 use rio_leaf::BranchDefs;
@@ -35,6 +36,9 @@ fn head(alloc: Global, name: &[u8], cycle: u16) -> Result<KeyHead, Fail> {
 fn says_what_was_done_or_refused(rt: HostRuntime) -> Result<(), Fail> {
     let put = put_reply(rt.alloc(), b"s", 2)?;
     assert!(rt; put.as_slice() == b"ok put s;2\n".as_slice());
+    let heads = [head(rt.alloc(), b"s", 3)?, head(rt.alloc(), b"t", 1)?];
+    let all = batch_reply(rt.alloc(), &heads)?;
+    assert!(rt; all.as_slice() == b"ok batch s;3 t;1\n".as_slice());
     let deleted = delete_reply(rt.alloc(), b"s", 2)?;
     assert!(rt; deleted.as_slice() == b"ok delete s;2\n".as_slice());
     let declared = class_reply(rt.alloc(), b"Node", 1)?;

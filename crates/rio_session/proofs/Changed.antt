@@ -4,7 +4,7 @@ use Rattle.std.proofs.{lemmas.Bool.{cases_lt}, lemmas.List.{append-nil}, lemmas.
 use Rattle.rio_host.specs.Host.{Any, Elapses, IsLawful, Longer, View}
 use Rattle.rio_host.proofs.{Images.{becomes_some, told_before}, Moments.{elapses_as}, ReadsLaws.{said_grows}}
 use Rattle.rio_chain.specs.{Becoming.{ChainBecomes}, Chains.{HasChain}, Segments.{IsChain, Link}, Stops.{KeepsFront}, declared.segment.Segment.{Segment}}
-use Rattle.rio_machine.specs.{State.{State}, declared.command.Command.{Command, TheVariants.{Class, Put, Delete, Tree, Fill, Save}}}
+use Rattle.rio_machine.specs.{State.{State}, declared.command.Command.{Command, TheVariants.{Class, Put, Batch, Delete, Tree, Fill, Save}}}
 use Rattle.rio_machine.specs.declared.command.Outcome.{Outcome, TheVariants.{Accepted, Refused}}
 use Rattle.rio_state.specs.{Closing.{held_with}, KeyedRecords.{keyed_records}, Left.{HasOpenHead}, Reads.{AreRecordsOf}, TreeLengths.{pending_in}}
 use Rattle.rio_step.specs.{Costs.{cost_of}, ReplyText.{text_of}, Runs.{saved_of}, Step.{Stepped, outcome_of, reply_to, state_behind}}
@@ -22,6 +22,7 @@ use Rattle.rio_session.proofs.{Spoken.{front_none, front_part, front_whole, grow
 abbrev pub is_writing : Command → Bool
 is_writing (Class class) = true
 is_writing (Put name v) = true
+is_writing (Batch puts) = true
 is_writing (Delete name cycle) = true
 is_writing (Tree name branches) = true
 is_writing (Fill name row) = true
@@ -31,6 +32,7 @@ is_writing other = false
 reply_accepts : (m : State) (c : Command) → is_writing c ≡ true → outcome_of (reply_to m c) ≡ Accepted
 reply_accepts m (Class class) is = refl
 reply_accepts m (Put name v) is = refl
+reply_accepts m (Batch puts) is = refl
 reply_accepts m (Delete name cycle) is = refl
 reply_accepts m (Tree name branches) is = refl
 reply_accepts m (Fill name row) is = refl
@@ -41,6 +43,7 @@ reply_accepts m other is = absurd cc
 never_nothing : (s : SessionState) (m : State) (c : Command) → is_writing c ≡ true → outcome_of (next_of s m c).reply ≡ Accepted → WritesNothing s m c → ⊥
 never_nothing s m (Class class) is accepted nothing = let same : Accepted ≡ Refused nothing.0 = sym accepted ∙ nothing.1 in absurd cc
 never_nothing s m (Put name v) is accepted nothing = let same : Accepted ≡ Refused nothing.0 = sym accepted ∙ nothing.1 in absurd cc
+never_nothing s m (Batch puts) is accepted nothing = let same : Accepted ≡ Refused nothing.0 = sym accepted ∙ nothing.1 in absurd cc
 never_nothing s m (Delete name cycle) is accepted nothing = let same : Accepted ≡ Refused nothing.0 = sym accepted ∙ nothing.1 in absurd cc
 never_nothing s m (Tree name branches) is accepted nothing = let same : Accepted ≡ Refused nothing.0 = sym accepted ∙ nothing.1 in absurd cc
 never_nothing s m (Fill name row) is accepted nothing = let same : Accepted ≡ Refused nothing.0 = sym accepted ∙ nothing.1 in absurd cc

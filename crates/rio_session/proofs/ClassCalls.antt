@@ -10,7 +10,7 @@ use Rattle.rio_model.specs.{Declaring.{rule_fault}, StateClasses.{StateClasses},
 use Rattle.rio_model.specs.declared.declare.DeclareFault.{DeclareFault, TheVariants.{TooMany}}
 use Rattle.rio_chain.specs.{NewRecords.{IsNewRecord}, Placing.{file_end, place_of, with_segment}, Record.{FitsWords, key_size}, declared.key_words.KeyWords.{KeyWords}}
 use Rattle.rio_chain.proofs.Records.{are_new_records}
-use Rattle.rio_machine.specs.{State.{State, empty_state}, declared.command.Command.{Command, TheVariants.{Bad, Class, Put, Delete, Tree, Fill, Save, Get, Scan, Ls}}}
+use Rattle.rio_machine.specs.{State.{State, empty_state}, declared.command.Command.{Command, TheVariants.{Bad, Class, Put, Batch, Delete, Tree, Fill, Save, Get, Scan, Ls}}}
 use Rattle.rio_machine.specs.{declared.command.Outcome.{Outcome, TheVariants.{Accepted, Refused}}, declared.refusal.Refusal.TheVariants.{Full}}
 use Rattle.rio_state.specs.Closing.{end_limit, is_full, padded_length}
 use Rattle.rio_step.specs.{Costs.{info_size}, Refusing.{refusal_of, with_class}, ReplyText.{text_of}, Step.{Stepped, class_declared, outcome_of, refused}}
@@ -31,6 +31,7 @@ is_class : (classes : List ClassDef) (heads : List KeyHead) (c : Command) (d : N
 is_class classes heads (Bad line place) d can = absurd can
 is_class classes heads (Class class) d can = (class, refl)
 is_class classes heads (Put name v) d can = absurd can
+is_class classes heads (Batch puts) d can = absurd can
 is_class classes heads (Delete name cycle) d can = absurd can
 is_class classes heads (Tree name branches) d can = absurd can
 is_class classes heads (Fill name row) d can = absurd can

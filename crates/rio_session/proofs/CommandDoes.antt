@@ -8,7 +8,7 @@ use Rattle.rio_value.specs.declared.value.Value.{Value}
 use Rattle.rio_dir.specs.Table.{head_of, with_head}
 use Rattle.rio_chain.specs.Placing.{file_end, place_of, record_count}
 use Rattle.rio_machine.specs.{Limits.{head_length}, State.{State}}
-use Rattle.rio_machine.specs.declared.command.Command.{Command, TheVariants.{Bad, Class, Put, Delete, Tree, Fill, Save, Get, Scan, Ls}}
+use Rattle.rio_machine.specs.declared.command.Command.{Command, TheVariants.{Bad, Class, Put, Batch, Delete, Tree, Fill, Save, Get, Scan, Ls}}
 use Rattle.rio_machine.specs.{declared.command.Outcome.{Outcome, TheVariants.{Accepted, Refused}}, declared.refusal.Refusal.{Refusal, TheVariants.{Full}}}
 use Rattle.rio_chain.specs.declared.record.NewRecord.{NewRecord}
 use Rattle.rio_reply.specs.Told.{item_listing_of}
@@ -36,6 +36,7 @@ is_ls : (classes : List ClassDef) (heads : List KeyHead) (c : Command) → WorkC
 is_ls classes heads (Bad line place) can = absurd can
 is_ls classes heads (Class class) can = absurd can
 is_ls classes heads (Put name v) can = absurd can
+is_ls classes heads (Batch puts) can = absurd can
 is_ls classes heads (Delete name cycle) can = absurd can
 is_ls classes heads (Tree name branches) can = absurd can
 is_ls classes heads (Fill name row) can = absurd can
@@ -48,6 +49,7 @@ pub is_get : (classes : List ClassDef) (heads : List KeyHead) (c : Command) (h :
 is_get classes heads (Bad line place) h version can = absurd can
 is_get classes heads (Class class) h version can = absurd can
 is_get classes heads (Put name v) h version can = absurd can
+is_get classes heads (Batch puts) h version can = absurd can
 is_get classes heads (Delete name cycle) h version can = absurd can
 is_get classes heads (Tree name branches) h version can = absurd can
 is_get classes heads (Fill name row) h version can = absurd can
@@ -60,6 +62,7 @@ pub is_put : (classes : List ClassDef) (heads : List KeyHead) (c : Command) (o :
 is_put classes heads (Bad line place) o can = absurd can
 is_put classes heads (Class class) o can = absurd can
 is_put classes heads (Put name v) o can = (v, ap (λ (n : List ℕ). Put n v) (sym can.0))
+is_put classes heads (Batch puts) o can = absurd can
 is_put classes heads (Delete name cycle) o can = absurd can
 is_put classes heads (Tree name branches) o can = absurd can
 is_put classes heads (Fill name row) o can = absurd can

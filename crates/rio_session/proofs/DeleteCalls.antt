@@ -7,7 +7,7 @@ use Rattle.rio_num.specs.Word.{is_item_text}
 use Rattle.rio_step.specs.Statable.{IsStatable}
 use Rattle.rio_dir.specs.Table.{head_of}
 use Rattle.rio_tree_table.specs.declared.table.KeptTree.{KeptTree}
-use Rattle.rio_machine.specs.{State.{State}, declared.command.Command.{Command, TheVariants.{Bad, Class, Put, Delete, Tree, Fill, Save, Get, Scan, Ls}}}
+use Rattle.rio_machine.specs.{State.{State}, declared.command.Command.{Command, TheVariants.{Bad, Class, Put, Batch, Delete, Tree, Fill, Save, Get, Scan, Ls}}}
 use Rattle.rio_machine.specs.declared.command.Outcome.{Outcome, TheVariants.{Accepted}}
 use Rattle.rio_step.specs.{Refusing.{refusal_of}, ReplyText.{text_of}, Step.{item_deleted}}
 use Rattle.rio_judge.proofs.KeysOfState.{first_is_found, found_key}
@@ -23,6 +23,7 @@ is_delete : (classes : List ClassDef) (heads : List KeyHead) (c : Command) (h : 
 is_delete classes heads (Bad line place) h can = absurd can
 is_delete classes heads (Class class) h can = absurd can
 is_delete classes heads (Put name v) h can = absurd can
+is_delete classes heads (Batch puts) h can = absurd can
 is_delete classes heads (Delete name cycle) h can =
     let own = found_key name cycle heads h can in
     ((λ i. Delete (sym own.0 i) (sym own.1 i)), (λ i. head_of (own.0 i) (Some (own.1 i)) heads) ∙ can)
@@ -45,6 +46,7 @@ pub tree_delete : (classes : List ClassDef) (heads : List KeyHead) (trees : List
 tree_delete classes heads trees (Bad line place) h can = absurd can
 tree_delete classes heads trees (Class class) h can = absurd can
 tree_delete classes heads trees (Put name v) h can = absurd can
+tree_delete classes heads trees (Batch puts) h can = absurd can
 tree_delete classes heads trees (Delete name cycle) h can = deletes_tree classes heads trees name cycle h can
 tree_delete classes heads trees (Tree name branches) h can = absurd can
 tree_delete classes heads trees (Fill name row) h can = absurd can

@@ -1,9 +1,9 @@
 -- The steps by the records of a file are those by what is kept beside it.
 use Rattle.std.proofs.Common.{refl}
-use Rattle.rio_machine.specs.declared.command.Command.{TheVariants.{Bad, Class, Put, Delete, Tree, Fill, Save, Get, Scan, Ls}}
+use Rattle.rio_machine.specs.declared.command.Command.{TheVariants.{Bad, Class, Put, Batch, Delete, Tree, Fill, Save, Get, Scan, Ls}}
 use Rattle.rio_effect.specs.HeaderRecords.{HeadersHaveRecords}
 use Rattle.rio_session.specs.{FileSteps.{StepsFollowFiles}, Marks.{command_lengths}}
-use Rattle.rio_session.proofs.{ClassAgrees.{class_agrees}, DeleteAgrees.{delete_agrees}, FileMarks.{follows_file, prints_agree}, FillAgrees.{fill_agrees}, PutAgrees.{put_agrees}, SaveFollows.{save_agrees}, TreeAgrees.{tree_agrees}}
+use Rattle.rio_session.proofs.{BatchAgrees.{batch_agrees}, ClassAgrees.{class_agrees}, DeleteAgrees.{delete_agrees}, FileMarks.{follows_file, prints_agree}, FillAgrees.{fill_agrees}, PutAgrees.{put_agrees}, SaveFollows.{save_agrees}, TreeAgrees.{tree_agrees}}
 
 pub steps_follow_files : HeadersHaveRecords → StepsFollowFiles
 unfolding command_lengths
@@ -13,6 +13,8 @@ steps_follow_files headers s m file (Class class) h sound fresh soon statable =
     follows_file s m file h (Class class) (class_agrees s m file h sound fresh soon class statable)
 steps_follow_files headers s m file (Put name v) h sound fresh soon statable =
     follows_file s m file h (Put name v) (put_agrees s m file h sound fresh soon name v statable)
+steps_follow_files headers s m file (Batch puts) h sound fresh soon statable =
+    follows_file s m file h (Batch puts) (batch_agrees s m file h sound fresh soon puts statable)
 steps_follow_files headers s m file (Delete name cycle) h sound fresh soon statable =
     follows_file s m file h (Delete name cycle) (delete_agrees s m file h sound fresh name cycle)
 steps_follow_files headers s m file (Save name) h sound fresh soon statable =

@@ -6,7 +6,7 @@ use Rattle.rio_key.specs.declared.head.KeyHead.{KeyHead}
 use Rattle.rio_leaf.specs.declared.branch.BranchDef.{BranchDef}
 use Rattle.rio_dir.specs.Table.{head_of}
 use Rattle.rio_fill.specs.Fill.{defs_of}
-use Rattle.rio_machine.specs.{Rows.{entries_of}, State.{Row, State}, declared.command.Command.{Command, TheVariants.{Bad, Class, Put, Delete, Tree, Fill, Save, Get, Scan, Ls}}}
+use Rattle.rio_machine.specs.{Rows.{entries_of}, State.{Row, State}, declared.command.Command.{Command, TheVariants.{Bad, Class, Put, Batch, Delete, Tree, Fill, Save, Get, Scan, Ls}}}
 use Rattle.rio_step.specs.{Costs.{cost_of}, Refusing.{fill_row}}
 use Rattle.rio_effect.specs.TreeRecords.{new_head}
 use Rattle.rio_session.specs.{Fillings.{both_done, filling_with, heading, listing_if_none, nothing_done, saving, saving_tree, saving_with}, Fills.{FilledTree, is_tree_of}}
@@ -48,6 +48,7 @@ pub kept_by_file : (s : SessionState) (m : State) (c : Command) → IsSameFile s
 kept_by_file s m (Bad line place) = same_file s
 kept_by_file s m (Class class) = record { name = refl; nbytes_name = refl; datime = refl; opened = refl; costs = refl; failed = refl }
 kept_by_file s m (Put name v) = record { name = refl; nbytes_name = refl; datime = refl; opened = refl; costs = refl; failed = refl }
+kept_by_file s m (Batch puts) = record { name = refl; nbytes_name = refl; datime = refl; opened = refl; costs = refl; failed = refl }
 kept_by_file s m (Delete name cycle) = record { name = refl; nbytes_name = refl; datime = refl; opened = refl; costs = refl; failed = refl }
 kept_by_file s m (Tree name branches) = made_file s m name branches s.info
 kept_by_file s m (Fill name row) = filled_file s m name row (find (is_tree_of name) s.trees)

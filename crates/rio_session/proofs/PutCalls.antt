@@ -11,7 +11,7 @@ use Rattle.rio_key.specs.declared.head.KeyHead.{KeyHead}
 use Rattle.rio_value.specs.declared.value.Value.{Value}
 use Rattle.rio_dir.specs.Table.{head_of, with_head}
 use Rattle.rio_chain.specs.Placing.{file_end, place_of, record_count, with_segment}
-use Rattle.rio_machine.specs.{Limits.{head_length}, declared.command.Command.{Command, TheVariants.{Bad, Class, Put, Delete, Tree as MakeTree, Fill, Save, Get, Scan, Ls}}}
+use Rattle.rio_machine.specs.{Limits.{head_length}, declared.command.Command.{Command, TheVariants.{Bad, Class, Put, Batch, Delete, Tree as MakeTree, Fill, Save, Get, Scan, Ls}}}
 use Rattle.rio_machine.specs.{declared.command.Outcome.{Outcome, TheVariants.{Accepted, Refused}}, declared.refusal.Refusal.TheVariants.{Full}}
 use Rattle.rio_chain.specs.declared.record.NewRecord.{NewRecord}
 use Rattle.rio_state.specs.Closing.{end_limit, is_full, padded_length}
@@ -21,12 +21,12 @@ use Rattle.rio_judge.specs.Trees.{IsTreeKeyOf, TreeWorkCanBeDone}
 use Rattle.rio_tree_table.specs.Table.{tree_of}
 use Rattle.rio_types.specs.declared.class.Base.{Base}
 use Rattle.rio_judge.specs.declared.work.{AnyWork.{AnyWork, TheVariants.{Item, Tree}}, TreeWork.{TreeWork, TheVariants.{Make as Making, Fill as Filling, Save as Saving, Delete as DeletingTree, Scan as ScanOf}}}
-use Rattle.rio_judge.specs.declared.work.{StoredObject.{StoredObject}, Work.{Work, TheVariants.{Class as Declaring, Put as Storing, Delete as Deleting, Get as Telling, Ls as Listing}}}
+use Rattle.rio_judge.specs.declared.work.{StoredObject.{StoredObject}, Work.{Work, TheVariants.{Class as Declaring, Put as Storing, Batch as StoringAll, Delete as Deleting, Get as Telling, Ls as Listing}}}
 use Rattle.rio_session.specs.{Causes.{NeverReads}, Doable.{AnyCanBeDone, CanBeDone, IsToDo, ReadsNothing}, Does.{Does}, Sound.{IsSoundState}}
 use Rattle.rio_recover.specs.Closable.{is_sized}
 use Rattle.rio_session.specs.{Changing.{ChangesFile}, Due.{need_with}, Puts.{CanBePut, IsStoredRecord, putting}}
 use Rattle.rio_session.specs.{Replying.{Replies, reply_text}, Says.{SaysReply}, Session.{IsReady, SessionState}, declared.fault.SessionFault.{SessionFault}}
-use Rattle.rio_session.proofs.{ClassCalls.{can_declare}, CommandDoes.{full_does, is_get, is_put, put_does}, DeleteCalls.{to_delete, tree_delete}, PutFacts.{can_be_put, class_is, name_is, sized_is}, StoredRecords.{is_stored}}
+use Rattle.rio_session.proofs.{BatchCalls.{can_store_all}, ClassCalls.{can_declare}, CommandDoes.{full_does, is_get, is_put, put_does}, DeleteCalls.{to_delete, tree_delete}, PutFacts.{can_be_put, class_is, name_is, sized_is}, StoredRecords.{is_stored}}
 use Rattle.rio_session.specs.{Fills.{FilledTree, is_tree_of, kept_tree_of}, SessionState.{kept_trees}}
 use Rattle.rio_session.proofs.FillLists.{kept_found}
 
@@ -35,7 +35,8 @@ pub can_store : (s : SessionState) (c : Command) (o : StoredObject) → IsToDo s
 can_store s c o todo sound =
     let p = is_put s.classes s.heads c o todo.can.0 in
     let to : IsToDo s (Put o.name p.0) (Item (Storing o)) = subst (λ (x : Command). IsToDo s x (Item (Storing o))) p.1 todo in
-    (is_stored s.classes s.heads p.0 o to.can.0.1 sound.classes to.statable, to.can.0.1.new)
+    let can = to.can.0.1 in
+    (is_stored s.classes o can.class can.object can.written can.last sound.classes to.statable, can.new)
 
 -- it can be printed
 pub can_tell : (s : SessionState) (c : Command) (h : KeyHead) (version : Option ℤ) → IsToDo s c (Item (Telling h version)) → CanBeDone s (Telling h version)
@@ -46,6 +47,7 @@ can_tell s c h version todo =
 
 pub item_can_be_done : (s : SessionState) (c : Command) (work : Work) → IsToDo s c (Item work) → IsSoundState s → CanBeDone s work
 item_can_be_done s c (Storing o) todo sound = can_store s c o todo sound
+item_can_be_done s c (StoringAll os) todo sound = can_store_all s c os todo sound
 item_can_be_done s c (Deleting h) todo sound = (to_delete s c h (inl todo)).found
 item_can_be_done s c (Declaring d) todo sound = can_declare s c d todo sound
 item_can_be_done s c (Telling h version) todo sound = can_tell s c h version todo
@@ -97,6 +99,7 @@ tree_can_be_done s (Scan name class) (ScanOf h asked) statable can = let own = o
 tree_can_be_done s (Bad line place) work statable can = absurd can
 tree_can_be_done s (Class class) work statable can = absurd can
 tree_can_be_done s (Put name v) work statable can = absurd can
+tree_can_be_done s (Batch puts) work statable can = absurd can
 tree_can_be_done s (Get name asked version) work statable can = absurd can
 tree_can_be_done s Ls work statable can = absurd can
 tree_can_be_done s (MakeTree name branches) other statable can = absurd can
@@ -115,6 +118,7 @@ scans s (Scan name asked) h class can never = never
 scans s (Bad line place) h class can never = absurd can
 scans s (Class d) h class can never = absurd can
 scans s (Put name v) h class can never = absurd can
+scans s (Batch puts) h class can never = absurd can
 scans s (Delete name cycle) h class can never = absurd can
 scans s (MakeTree name branches) h class can never = absurd can
 scans s (Fill name row) h class can never = absurd can
@@ -126,6 +130,7 @@ scans s Ls h class can never = absurd can
 pub reads_nothing : (s : SessionState) (c : Command) (work : AnyWork) → IsToDo s c work → NeverReads c → ReadsNothing work
 reads_nothing s c (Item (Declaring d)) todo never = tt
 reads_nothing s c (Item (Storing o)) todo never = tt
+reads_nothing s c (Item (StoringAll os)) todo never = tt
 reads_nothing s c (Item (Deleting h)) todo never = tt
 reads_nothing s c (Item (Telling h version)) todo never = let p = is_get s.classes s.heads c h version todo.can.0 in subst NeverReads p.2 never
 reads_nothing s c (Item Listing) todo never = tt

@@ -1,18 +1,24 @@
 -- There are files of the links that puts leave: those of one record, and of the open baskets of a tree.
 use Rattle.std.proofs.Common.{◌≡◌, ◌∙◌, ◌⊎◌, inl, inr, ℕ, zero, suc, ◌+◌, ◌-◌, ◌≤◌, List, [], ◌∷◌, ◌++◌, drop, length, map, take, Option, Some, None, refl, sym, ap, subst, arith}
+use Rattle.std.proofs.lemmas.List.{append-nil}
 use Rattle.byteorder.specs.Endian.{big_bytes}
 use Rattle.rio_leaf.specs.declared.branch.BranchDef.{BranchDef}
 use Rattle.rio_free.specs.Gaps.{HasGapFor}
 use Rattle.rio_host.proofs.StopLaws.{patched_put}
 use Rattle.rio_host.specs.Stops.{patched}
-use Rattle.rio_chain.specs.{Adjoining.{AreSegments}, Chains.{HasChain}, Changes.{with_record}, Placing.{file_end, gaps_in, place_of, word_behind}, Segments.{IsChain, IsRecord, Link, segment_of}, declared.segment.Segment.{Segment}}
-use Rattle.rio_chain.proofs.{Placed.{has_rest, place_free, split}, PutChain.{Putting, putting}}
+use Rattle.rio_chain.specs.{Adjoining.{AreSegments}, Chains.{HasChain}, Changes.{with_record}, Placing.{HasRest, file_end, gaps_in, place_of, word_behind}, Segments.{IsChain, IsRecord, Link, segment_of}, declared.segment.Segment.{Segment}}
+use Rattle.rio_chain.proofs.{Placed.{has_rest, place_free, split}, PutChain.{Putting, putting}, Puts.{joined}}
 use Rattle.rio_effect.specs.{BasketRuns.{CanAllBePut}, Changes.{all_changed, basket_added, basket_place, changed}, TreeChanges.{basket_changes}, TreeRecords.{length_of_basket, record_of_basket, words_of_basket}}
 use Rattle.rio_effect.proofs.{BasketLength.{record_long}, Held.{chain_segments}, PutBaskets.{baskets_have_records}}
 
 -- ---- one record
 
-put_in_file : (file : List ℕ) (links : List Link) (place : ℕ) (bytes tail : List ℕ) → Putting file links place bytes tail → (image : List ℕ) × IsChain (with_record place bytes links) image
+-- as records that are one
+one_long : (bytes : List ℕ) → length bytes ≡ length (joined (bytes ∷ []))
+unfolding joined
+one_long bytes = ap length (sym (append-nil bytes))
+
+put_in_file : (file : List ℕ) (links : List Link) (place : ℕ) (bytes tail : List ℕ) → Putting file links place (length bytes) (bytes ∷ []) tail → (image : List ℕ) × IsChain (with_record place bytes links) image
 put_in_file file links place bytes tail p =
     let word = big_bytes 4 (length bytes) in
     let staged = patched file (place + 4) tail in
@@ -32,12 +38,13 @@ put_file file links place bytes chain whole is = by (place_free (map segment_of 
         let segments = map segment_of links in
         let c = split 100 segments place (length bytes) (chain_segments file links chain).adjacent gap in
         let rest : Option ℕ = Some (c.m - length bytes) in
-        let tail = drop 4 (bytes ++ word_behind rest) in
-        put_in_file file links place bytes tail (putting file links segments place bytes tail rest has whole (has_rest segments place (length bytes) c) refl)
+        let tail = drop 4 (joined (bytes ∷ []) ++ word_behind rest) in
+        let fits = subst (λ (n : ℕ). HasRest segments place n (c.m - length bytes)) (one_long bytes) (has_rest segments place (length bytes) c) in
+        put_in_file file links place bytes tail (putting file links segments place bytes [] tail rest has (whole, tt) fits refl)
     by (inr end) =
         let rest : Option ℕ = None in
-        let tail = drop 4 (bytes ++ word_behind rest) in
-        put_in_file file links place bytes tail (putting file links (map segment_of links) place bytes tail rest has whole end refl)
+        let tail = drop 4 (joined (bytes ∷ []) ++ word_behind rest) in
+        put_in_file file links place bytes tail (putting file links (map segment_of links) place bytes [] tail rest has (whole, tt) end refl)
 
 -- ---- the open baskets of a tree
 

@@ -13,7 +13,7 @@ use Rattle.rio_machine.specs.{Limits.{head_length}, State.{State}, declared.comm
 use Rattle.rio_machine.specs.{declared.command.Outcome.TheVariants.{Refused}, declared.refusal.Refusal.{TheVariants.{Full}}}
 use Rattle.rio_state.specs.{Closing.{KeptRecords, free_length, held_with, is_full, list_length, padded_length}, Sizes.{close_size}, TreeLengths.{pending_in}}
 use Rattle.rio_step.specs.{KeptItems.{AreItemsOfState}, Refusing.{FullMark, object_class, put_value, refusal_of}}
-use Rattle.rio_step.specs.{Costs.{cost_of, room_limit, value_size}, ReplyText.{text_of}}
+use Rattle.rio_step.specs.{Costs.{cost_of, room_limit}, ReplyText.{text_of}}
 use Rattle.rio_step.specs.Step.{Stepped, object_put, outcome_of, refused, state_behind}
 use Rattle.rio_effect.specs.ObjectRecord.{data_of_put, key_of_put, object_key, words_of_put}
 use Rattle.rio_judge.specs.{Judging.{IsStep}, declared.work.StoredObject.{StoredObject}}
@@ -21,7 +21,7 @@ use Rattle.rio_recover.specs.Closable.{is_sized, list_count}
 use Rattle.rio_session.specs.{Behind.{IsOfKeys}, Due.{IsClosableWith, due_of, kept_records, need_with}, Effects.{IsChangeOf}, Kept.{place_of_put}, Marks.{basket_total, command_lengths, mark_of_command, state_need}}
 use Rattle.rio_session.specs.{Items.{AreTreeKeys}, Puts.{IsStoredRecord, putting}, Session.{HoldsState, SessionState, next_of}, SessionState.{baskets_of, kept_trees}}
 use Rattle.rio_session.proofs.{Keeps.{all_with, length_with, size_with}, FilledFiles.{filled_now, held_most}, FillSums.{due_baskets, need_by_due}, Lacking.{lacking}, Needs.{baskets_counted, need_by_keys}, Places.{end_most, full_is, sum_one}}
-use Rattle.rio_session.proofs.{PutFacts.{changes_are, cost_is, kept_is, place_is, text_is}, Refused.{changes_refused, kept_refused, refused_full, step_refused}}
+use Rattle.rio_session.proofs.{PutFacts.{changes_are, cost_is, kept_is, own_length_is, place_is, text_is}, Refused.{changes_refused, kept_refused, refused_full, step_refused}}
 use Rattle.rio_session.proofs.{PutKeys.{put_stands, put_tree_keys}, OnlyReplies.{IsStill}, States.{of_keys}}
 
 -- ---- the put
@@ -37,9 +37,6 @@ module _ (s : SessionState) (m : State) (keys : IsOfKeys s m) (sound : StateClas
 
   own_is : unwrap_or (object_class (put_value m v)) [] ≡ o.class
   own_is = ap (λ (w : Value). unwrap_or (object_class w) []) (sym step.value) ∙ ap (λ (x : Option (List ℕ)). unwrap_or x []) step.class
-
-  size_is : value_size m.classes (put_value m v) ≡ o.length
-  size_is = ap (λ (w : Value). value_size m.classes w) (sym step.value) ∙ sym step.written
 
   pub key_sized : is_sized key ≡ true
   unfolding object_key
@@ -74,7 +71,7 @@ module _ (s : SessionState) (m : State) (keys : IsOfKeys s m) (sound : StateClas
 
   pub lengths_are : command_lengths s m (Put o.name v) ≡ n ∷ []
   unfolding command_lengths
-  lengths_are = λ i. padded_length (head_length (own_is i) o.name + size_is i) ∷ []
+  lengths_are = ap (λ (k : ℕ). k ∷ []) (sym (own_length_is s place o m v (sym keys.classes) step))
 
   abbrev mark_by : List ℕ → ℕ → Option FullMark
   mark_by lengths k = if is_full s.segments lengths k then Some (record { end = file_end s.segments; wanted = sum lengths }) else None

@@ -7,7 +7,7 @@ use Rattle.rio_types.specs.declared.class.ClassDef.{ClassDef}
 use Rattle.rio_leaf.specs.declared.branch.BranchDef.{BranchDef}
 use Rattle.rio_key.specs.declared.head.KeyHead.{KeyHead}
 use Rattle.rio_tree_table.specs.{declared.table.KeptTree.{KeptTree}}
-use Rattle.rio_machine.specs.{Limits.{has_long_entry, is_too_long}, Rows.{entries_of, row_fits}, State.{Row, State, Tree}, declared.command.Command.{Command, TheVariants.{Bad, Class, Put, Delete, Tree as MakeTree, Fill, Save, Get, Scan, Ls}}}
+use Rattle.rio_machine.specs.{Limits.{has_long_entry, is_too_long}, Rows.{entries_of, row_fits}, State.{Row, State, Tree}, declared.command.Command.{Command, TheVariants.{Bad, Class, Put, Batch, Delete, Tree as MakeTree, Fill, Save, Get, Scan, Ls}}}
 use Rattle.rio_machine.specs.{declared.entry_fault.EntryFault.{EntryFault, TheVariants.{BadRow, TooLarge, NoMemory}}, declared.refusal.Refusal.{Refusal}}
 use Rattle.rio_fill.specs.{Fill.{BranchFill, defs_of}, Prepare.{are_sized, is_sized, row_prepared}, Room.{without_room}}
 use Rattle.rio_step.specs.{KeptItems.{AreItemsOfState, kept_tree}, Refusing.{fill_row, refusal_of}, Statable.{IsStatable}}
@@ -62,6 +62,7 @@ pub is_fill : (classes : List ClassDef) (heads : List KeyHead) (trees : List Kep
 is_fill classes heads trees (Bad line place) r can = absurd can
 is_fill classes heads trees (Class class) r can = absurd can
 is_fill classes heads trees (Put name v) r can = absurd can
+is_fill classes heads trees (Batch puts) r can = absurd can
 is_fill classes heads trees (Delete name cycle) r can = absurd can
 is_fill classes heads trees (MakeTree name branches) r can = absurd can
 is_fill classes heads trees (Fill name row) r can = (row, ap (λ (n : List ℕ). Fill n row) (sym can.0))

@@ -5,7 +5,7 @@ use Rattle.rio_host.specs.Host.{IsLawful, View}
 use Rattle.rio_key.specs.declared.head.KeyHead.{KeyHead}
 use Rattle.rio_dir.specs.Table.{head_of}
 use Rattle.rio_chain.specs.{Adjoining.{AreSegments}, Placing.{file_end}}
-use Rattle.rio_machine.specs.{State.{State}, declared.command.Command.{Command, TheVariants.{Bad, Class, Put, Delete, Tree as MakeTree, Fill, Save, Get, Scan, Ls}}}
+use Rattle.rio_machine.specs.{State.{State}, declared.command.Command.{Command, TheVariants.{Bad, Class, Put, Batch, Delete, Tree as MakeTree, Fill, Save, Get, Scan, Ls}}}
 use Rattle.rio_machine.specs.{declared.command.Outcome.{Outcome, TheVariants.{Accepted, Refused}}, declared.refusal.Refusal.TheVariants.{Full}}
 use Rattle.rio_tree.specs.HeaderLength.{header_size}
 use Rattle.rio_tree_table.specs.declared.table.KeptTree.{KeptTree}
@@ -51,6 +51,7 @@ is_save classes heads trees (Save name) h can = ap Save (sym (found_key name h.c
 is_save classes heads trees (Bad line place) h can = absurd can
 is_save classes heads trees (Class class) h can = absurd can
 is_save classes heads trees (Put name v) h can = absurd can
+is_save classes heads trees (Batch puts) h can = absurd can
 is_save classes heads trees (Delete name cycle) h can = absurd can
 is_save classes heads trees (MakeTree name branches) h can = absurd can
 is_save classes heads trees (Fill name row) h can = absurd can

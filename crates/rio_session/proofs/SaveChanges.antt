@@ -1,6 +1,6 @@
 -- A save makes the same changes of a file by what is kept beside it as by its records: the open baskets, the next header, and the release of
 -- the header before.
-use Rattle.std.proofs.Common.{◌≡◌, inl, inr, ℕ, zero, suc, ◌+◌, ◌-◌, List, [], ◌∷◌, ◌++◌, length, map, take, Option, Some, None, refl, sym, ap, subst, ◌∙◌, arith}
+use Rattle.std.proofs.Common.{◌≡◌, inl, inr, ℕ, zero, suc, ◌+◌, ◌-◌, List, [], ◌∷◌, ◌++◌, length, map, sum, take, Option, Some, None, refl, sym, ap, subst, ◌∙◌, arith}
 use Rattle.std.proofs.{Math.Seq.{take-append-add}, lemmas.Bool.{cases_lt}, lemmas.List.{length-append, take-append-le, take_all, Sums.{fold-append}}}
 use Rattle.std.specs.{List.{find}, Option.{option_map_or}}
 use Rattle.rio_leaf.specs.declared.branch.BranchDef.{BranchDef}
@@ -13,7 +13,7 @@ use Rattle.rio_fill.specs.Fill.{all_saved, entry_count}
 use Rattle.rio_step.specs.Refusing.{refusal_of}
 use Rattle.rio_state.specs.{Contents.{file_classes}, KeyedRecords.{info_key, keyed_records}}
 use Rattle.rio_effect.specs.{BasketRuns.{CanAllBePut}, HeaderRecords.{IsHeaderRecord}, TreeRecords.{length_of_basket}}
-use Rattle.rio_effect.specs.Changes.{Change, added, added_length, all_changed, basket_added, changed, lengths_of, released}
+use Rattle.rio_effect.specs.Changes.{Change, added, added_length, all_changed, basket_added, batch_added, batch_lengths, changed, lengths_of, released}
 use Rattle.rio_effect.specs.Saves.{CanBeSaved, next_cycle_of, next_head, next_place}
 use Rattle.rio_effect.specs.{TreeChanges.{FileRecords, all_behind, basket_changes, baskets_placed, changes_of_save, header_added, head_of_save, open_of_tree}, TreeCommands.{KeepsTree}}
 use Rattle.rio_effect.specs.TreeRecords.{head_with, header_data, header_record, header_words}
@@ -31,6 +31,7 @@ lengths_behind (c ∷ cs) es = by c (lengths_behind cs es)
   where
     by : (c : Change) → lengths_of (cs ++ es) ≡ lengths_of cs ++ lengths_of es → lengths_of (c ∷ cs ++ es) ≡ lengths_of (c ∷ cs) ++ lengths_of es
     by (added words contents) later = ap (λ (l : List ℕ). added_length words contents ∷ l) later
+    by (batch_added records) later = ap (λ (l : List ℕ). sum (batch_lengths records) ∷ l) later
     by (basket_added words) later = ap (λ (l : List ℕ). length_of_basket words ∷ l) later
     by (released place) later = later
 

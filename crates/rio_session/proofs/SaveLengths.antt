@@ -1,11 +1,9 @@
 -- How long the records of a save are, by what is kept alone.
 use Rattle.std.proofs.Common.{◌≡◌, ◌∙◌, ℕ, ◌+◌, ◌-◌, ◌%◌, ◌^◌, ◌<◌, ◌≤◌, codes, List, [], ◌∷◌, ◌++◌, length, map, refl, ap, arith}
-use Rattle.std.proofs.lemmas.List.{length-append, length-replicate, Elements.{recursion_from_All}, Sums.{sum_by-cons}}
+use Rattle.std.proofs.lemmas.List.{Elements.{recursion_from_All}, Sums.{sum_by-cons}}
 use Rattle.std.specs.List.{All}
-use Rattle.rio_num.specs.Room.{padding}
-use Rattle.rio_key.specs.{Written.{written_key}, declared.head.KeyHead.{KeyHead}}
-use Rattle.rio_chain.specs.{Record.{key_size, new_key, record_bytes, unpadded}, declared.key_words.KeyWords.{KeyWords}, declared.segment.Segment.{Segment}}
-use Rattle.rio_chain.proofs.Records.{key_long}
+use Rattle.rio_key.specs.declared.head.KeyHead.{KeyHead}
+use Rattle.rio_chain.specs.{Record.{key_size}, declared.segment.Segment.{Segment}}
 use Rattle.rio_machine.specs.Limits.{head_length}
 use Rattle.rio_tree.specs.{HeaderLength.{basket_count, header_length}, WrittenLaws.{stated_defs}, declared.head.Branch.{Branch}, declared.head.TreeHead.{TreeHead}}
 use Rattle.rio_tree.proofs.HeaderLengths.{header_length_is_known}
@@ -14,18 +12,9 @@ use Rattle.rio_state.specs.Closing.{padded_length}
 use Rattle.rio_effect.specs.TreeRecords.{header_data, header_record, header_words}
 use Rattle.rio_session.specs.{Due.{IsBranchSound, lengths_of_fill, open_lengths, written_count}, Fillings.{open_list, put_open}, Fills.{FilledTree, branch_in_header}}
 use Rattle.rio_session.specs.{SavePlans.{head_now, put_now, saving_now}, SessionState.{SessionState}}
-use Rattle.rio_session.proofs.{BasketsPlaced.{defs_put, puts_are}, CutLengths.{defs_said}, FillRoom.{many_lengths}, KeptRoom.{reckoned}, PutCounts.{written_put}, SaveHeads.{AreReady, AreSound, all_ready, early_all}}
+use Rattle.rio_session.proofs.{BasketsPlaced.{defs_put, puts_are}, CutLengths.{defs_said}, FillRoom.{many_lengths}, KeptRoom.{reckoned}, PutCounts.{written_put}, SaveHeads.{AreReady, AreSound, all_ready, early_all}, StoredRecords.{record_size}}
 
 -- ---- a header's record
-
-record_size : (words : KeyWords) (contents : List ℕ) → length (record_bytes words contents) ≡ padded_length (key_size words + length contents)
-unfolding record_bytes
-record_size words contents =
-    let front : List ℕ = unpadded words contents in
-    let long : length (unpadded words contents) ≡ key_size words + length contents = length-append (written_key (new_key words (length contents))) contents ∙ ap (λ (n : ℕ). n + length contents) (key_long words (length contents)) in
-    length-append front (padding front)
-    ∙ ap (λ (n : ℕ). length front + n) (length-replicate ((4 - length front % 4) % 4) 0)
-    ∙ ap padded_length long
 
 -- it is as long as the number of its baskets makes it
 pub header_long : (place datime : ℕ) (name : List ℕ) (cycle : ℕ) (head : TreeHead)

@@ -6,7 +6,7 @@ use Rattle.rio_types.specs.declared.{class.Base.{Base}, class.ClassDef.{ClassDef
 use Rattle.rio_key.specs.declared.head.KeyHead.{KeyHead}
 use Rattle.rio_fill.specs.Fill.{entry_count}
 use Rattle.rio_machine.specs.State.{State, Tree}
-use Rattle.rio_machine.specs.declared.command.Command.{Command, TheVariants.{Bad, Class, Put, Delete, Tree as MakeTree, Fill, Save, Get, Scan, Ls}}
+use Rattle.rio_machine.specs.declared.command.Command.{Command, TheVariants.{Bad, Class, Put, Batch, Delete, Tree as MakeTree, Fill, Save, Get, Scan, Ls}}
 use Rattle.rio_machine.specs.declared.command.Outcome.{Outcome, TheVariants.{Accepted}}
 use Rattle.rio_model.specs.Mapping.{Mapped}
 use Rattle.rio_reply.specs.Scanned.{scan_start}
@@ -28,6 +28,7 @@ is_scan : (classes : List ClassDef) (s : SessionState) (c : Command) (h : KeyHea
 is_scan classes s (Bad line place) h asked can = absurd can
 is_scan classes s (Class class) h asked can = absurd can
 is_scan classes s (Put name v) h asked can = absurd can
+is_scan classes s (Batch puts) h asked can = absurd can
 is_scan classes s (Delete name cycle) h asked can = absurd can
 is_scan classes s (MakeTree name branches) h asked can = absurd can
 is_scan classes s (Fill name row) h asked can = absurd can

@@ -4,7 +4,7 @@ use Rattle.rio_host.specs.Host.{IsLawful, View}
 use Rattle.rio_types.specs.declared.class.ClassDef.{ClassDef}
 use Rattle.rio_key.specs.declared.head.KeyHead.{KeyHead}
 use Rattle.rio_chain.specs.{Adjoining.{AreSegments}, Placing.{file_end, record_count}}
-use Rattle.rio_machine.specs.{State.{State, empty_state}, declared.command.Command.{Command, TheVariants.{Bad, Class, Put, Delete, Tree as MakeTree, Fill, Save, Get, Scan, Ls}}}
+use Rattle.rio_machine.specs.{State.{State, empty_state}, declared.command.Command.{Command, TheVariants.{Bad, Class, Put, Batch, Delete, Tree as MakeTree, Fill, Save, Get, Scan, Ls}}}
 use Rattle.rio_machine.specs.{declared.command.Outcome.{Outcome, TheVariants.{Accepted, Refused}}, declared.refusal.Refusal.TheVariants.{Full}}
 use Rattle.rio_tree.specs.HeaderLength.{header_size}
 use Rattle.rio_tree_table.specs.declared.table.KeptTree.{KeptTree}
@@ -23,6 +23,7 @@ is_make : (classes : List ClassDef) (heads : List KeyHead) (trees : List KeptTre
 is_make classes heads trees (Bad line place) t can = absurd can
 is_make classes heads trees (Class class) t can = absurd can
 is_make classes heads trees (Put name v) t can = absurd can
+is_make classes heads trees (Batch puts) t can = absurd can
 is_make classes heads trees (Delete name cycle) t can = absurd can
 is_make classes heads trees (MakeTree name branches) t can = λ i. MakeTree (sym can.named i) (sym can.stated i)
 is_make classes heads trees (Fill name row) t can = absurd can

@@ -8,14 +8,15 @@ use Rattle.rio_state.specs.Trees.{can_be_branches}
 use Rattle.rio_step.specs.{Refusing.{is_list_name}, Statable.{IsStatable}}
 use Rattle.rio_judge.specs.{Trees.{AnyWorkCanBeDone, IsJudgementOfItems}, declared.work.JudgedWithTrees.TheVariants.{Accepted}}
 use Rattle.rio_judge.specs.declared.work.NewTree.{NewTree}
-use Rattle.rio_judge.specs.declared.work.{AnyWork.{AnyWork, TheVariants.{Item, Tree}}, Work.{Work, TheVariants.{Class, Put, Delete, Get, Ls}}}
+use Rattle.rio_judge.specs.declared.work.{AnyWork.{AnyWork, TheVariants.{Item, Tree}}, Work.{Work, TheVariants.{Class, Put, Batch, Delete, Get, Ls}}}
 use Rattle.rio_judge.specs.declared.work.TreeWork.TheVariants.{Make, Fill, Save, Delete as DeleteTree, Scan}
 use Rattle.rio_key.specs.declared.head.KeyHead.{KeyHead}
-use Rattle.rio_session.specs.{Lists.{IsDeclarable}, Puts.{IsStored}, Session.{SessionState}, Fills.{is_tree_of}, SessionState.{kept_trees}}
+use Rattle.rio_session.specs.{Lists.{IsDeclarable}, Puts.{CanStoreAll, IsStored}, Session.{SessionState}, Fills.{is_tree_of}, SessionState.{kept_trees}}
 
 -- It can be done by what the session keeps: no rule and no limit is broken, and no key has the name and cycle yet; or the key is the session's.
 abbrev pub CanBeDone : SessionState → Work → Type 0
 CanBeDone s (Put o) = IsStored s.classes o × (head_of o.name (Some o.cycle) s.heads ≡ None)
+CanBeDone s (Batch os) = CanStoreAll s os
 CanBeDone s (Class d) = IsDeclarable s.classes d
 CanBeDone s (Delete h) = head_of h.name (Some h.cycle) s.heads ≡ Some h
 CanBeDone s (Get h version) = head_of h.name (Some h.cycle) s.heads ≡ Some h

@@ -3,13 +3,14 @@ use Rattle.std.specs.{Prelude.{ℕ, List, [], ◌∷◌, ◌++◌, ◌==◌, len
 use Rattle.rio_key.specs.declared.head.KeyHead.{KeyHead}
 use Rattle.rio_types.specs.declared.class.ClassDef.{ClassDef}
 use Rattle.rio_value.specs.declared.value.Value.{Value}
-use Rattle.rio_dir.specs.Table.{head_of, with_head, without_head}
-use Rattle.rio_chain.specs.{Changes.{with_record, without_record}, Placing.{place_of, with_segment}, Releasing.{without_segment}, Segments.{Link}}
+use Rattle.rio_dir.specs.Table.{head_of, with_head, with_heads, without_head}
+use Rattle.rio_chain.specs.{Changes.{with_record, with_records, without_record}, Placing.{place_of, with_segment, with_segments}, Releasing.{without_segment}, Segments.{Link}}
 use Rattle.rio_chain.specs.declared.segment.Segment.{Segment, TheVariants.{Record, Gap}}
 use Rattle.rio_machine.specs.State.{State}
-use Rattle.rio_machine.specs.declared.command.Command.{Command, TheVariants.{Bad, Class, Put, Delete, Tree, Fill, Save, Get, Scan, Ls}}
+use Rattle.rio_machine.specs.declared.command.Command.{Command, TheVariants.{Bad, Class, Put, Batch, Delete, Tree, Fill, Save, Get, Scan, Ls}}
+use Rattle.rio_machine.specs.declared.command.PutItem.{PutItem}
 use Rattle.rio_step.specs.Refusing.{with_class}
-use Rattle.rio_effect.specs.{ClassRecord.{key_of_class, record_of_class}, ObjectRecord.{key_of_put, record_of_put}}
+use Rattle.rio_effect.specs.{ClassRecord.{key_of_class, record_of_class}, ObjectRecord.{key_of_put, keys_of_batch, record_of_put, records_of_batch, size_of_batch}}
 use Rattle.rio_recover.specs.Cleaning.{without_segments}
 pub use Rattle.rio_session.specs.{Due.{key_place}, Fillings.{LinksChange}}
 use Rattle.rio_session.specs.{Fillings.{filling, making, saving}, Fills.{is_tree_of, places_of_fill, without_filled}, Marks.{is_refused}, SessionState.{SessionState}}
@@ -34,6 +35,10 @@ released_segment (Some h) segments = without_segment h.seek segments
 -- where the rule places the record of a put
 abbrev pub place_of_put : SessionState → State → List ℕ → Value → ℕ
 place_of_put s m name v = place_of s.segments (length (record_of_put m 0 s.datime name v))
+
+-- those of a batch, one after the other
+abbrev pub place_of_batch : SessionState → State → List PutItem → ℕ
+place_of_batch s m puts = place_of s.segments (size_of_batch m 0 s.datime puts)
 
 -- and that of a class list
 abbrev pub place_of_class : SessionState → State → ClassDef → ℕ
@@ -64,6 +69,7 @@ released_by s name cycle = key_place (head_of name (Some cycle) s.heads) ++ tree
 -- the changes of the file's records, one after the other
 abbrev pub changes_by : SessionState → State → Command → List LinksChange
 changes_by s m (Put name v) = let place = place_of_put s m name v in with_record place (record_of_put m place s.datime name v) ∷ []
+changes_by s m (Batch puts) = let place = place_of_batch s m puts in with_records place (records_of_batch m place s.datime puts) ∷ []
 changes_by s m (Delete name cycle) = map without_record (released_by s name cycle)
 changes_by s m (Class class) = let place = place_of_class s m class in with_record place (record_of_class s.info m place s.datime class) ∷ released_link s.info
 changes_by s m (Bad line place) = []
@@ -79,6 +85,10 @@ abbrev pub kept_by : SessionState → State → Command → SessionState
 kept_by s m (Put name v) = let place = place_of_put s m name v in record s {
   segments = with_segment place (length (record_of_put m place s.datime name v)) s.segments;
   heads = with_head (key_of_put m place s.datime name v) s.heads;
+}
+kept_by s m (Batch puts) = let place = place_of_batch s m puts in record s {
+  segments = with_segments place (map length (records_of_batch m place s.datime puts)) s.segments;
+  heads = with_heads (keys_of_batch m place s.datime puts) s.heads;
 }
 kept_by s m (Delete name cycle) = record s {
   segments = without_segments (released_by s name cycle) s.segments;

@@ -16,6 +16,7 @@ pub mod HeldBaskets
 pub mod Items
 pub mod Kept
 pub mod Lists
+pub mod MadeBatches
 pub mod Marks
 pub mod Measures
 pub mod Noted

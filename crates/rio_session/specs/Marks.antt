@@ -4,7 +4,7 @@ use Rattle.rio_key.specs.declared.head.KeyHead.{KeyHead}
 use Rattle.rio_value.specs.declared.value.Value.{Value}
 use Rattle.rio_chain.specs.{Placing.{file_end}, Record.{new_key}}
 use Rattle.rio_machine.specs.{Limits.{head_length}, State.{NameAndCycle, State, Tree as TreeOf}}
-use Rattle.rio_machine.specs.declared.command.Command.{Command, TheVariants.{Bad, Class, Put, Delete, Tree, Fill, Save, Get, Scan, Ls}}
+use Rattle.rio_machine.specs.declared.command.Command.{Command, TheVariants.{Bad, Class, Put, Batch, Delete, Tree, Fill, Save, Get, Scan, Ls}}
 use Rattle.rio_step.specs.{Costs.{info_size, value_size}, Refusing.{FullMark, object_class_name, put_value, refusal_of, with_class}, Step.{state_behind}}
 use Rattle.rio_recover.specs.Closable.{list_count}
 use Rattle.rio_state.specs.Closing.{KeptRecords, close_need, is_full, padded_length}
@@ -55,10 +55,14 @@ trees_after s m other = s.trees
 
 -- ---- a command's records
 
--- how long the records are that a command puts, with their zero bytes
+-- how long the record of a put is
+abbrev pub length_of_put : State → List ℕ → Value → ℕ
+length_of_put m name v = let stored = put_value m v in padded_length (head_length (object_class_name stored) name + value_size m.classes stored)
+
+-- How long the records are that a command puts, with their zero bytes. Those of a batch stand one after the other, as one.
 unfoldable pub command_lengths : SessionState → State → Command → List ℕ
-command_lengths s m (Put name v) =
-    let stored = put_value m v in padded_length (head_length (object_class_name stored) name + value_size m.classes stored) ∷ []
+command_lengths s m (Put name v) = length_of_put m name v ∷ []
+command_lengths s m (Batch puts) = sum_by (λ p. length_of_put m p.name p.value) puts ∷ []
 command_lengths s m (Class class) = padded_length (list_key_size + info_size (with_class m.classes class)) ∷ []
 command_lengths s m (Delete name cycle) = []
 command_lengths s m (Bad line place) = []

@@ -2,9 +2,10 @@
 //! [`Session::apply_quiet`] does it and prints nothing, and [`Session::close`] closes the file. Each crash image while a command is done reads as the state from before it or after it. What is kept beside
 //! the file stands for the state, so no command but `get` and `scan` reads the file again.
 //!
-//! A command changes the records of the file by a list of changes, one after the other, each the put or the release of a
-//! record: a put adds a record, a delete releases one, that of a tree its header and then its baskets, and a class command
-//! adds the longer class list and then releases the one before. One change of each list takes effect, or none of a fill, so no crash image
+//! A command changes the records of the file by a list of changes, one after the other, each the put of a record, that of
+//! several by one word, or the release of one: a put adds a record, a batch one for each of its objects, a delete releases
+//! one, that of a tree its header and then its baskets, and a class command adds the longer class list and then releases
+//! the one before. One change of each list takes effect, or none of a fill, so no crash image
 //! reads as anything between. Commands that only print, and refused ones, write nothing. Of each tree the
 //! baskets that were written and the pending rows are kept; a close saves the trees that have some before it writes the key list.
 //!
@@ -15,6 +16,7 @@
 
 mod bare_head;
 mod baskets;
+mod batch;
 mod class;
 mod close;
 mod closing;

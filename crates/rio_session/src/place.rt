@@ -1,5 +1,6 @@
 //! Where a record goes, and the record of an object.
 ghost use Rattle.std.specs.Prelude.{◌≡◌, ◌+◌, ◌%◌, ◌≤◌, ◌<◌, ◌^◌, ◌∷◌, [], length, false, IfOk, IfErr, OnOk};
+ghost use Rattle.rio_chain.specs.Adjoining.{AreSegments};
 ghost use Rattle.rio_chain.specs.Placing.{file_end, place_of, with_segment};
 ghost use Rattle.rio_chain.specs.Segments.{IsRecord};
 ghost use Rattle.rio_effect.specs.ObjectRecord.{object_data};
@@ -35,6 +36,7 @@ pub(crate) fn key_length(class: &[u8], name: &[u8]) -> u64
 pub(crate) fn place_within(chain: &Chain, n: u64, need: u64) -> Result<u64, PlanFault>
     requires aligned { n % 4 ≡ 0 }
     requires some { 4 ≤ n }
+    ensures shape { OnOk result (AreSegments chain.now.segments) }
     ensures place { IfOk result (λ place. place ≡ place_of chain.now.segments n) }
     ensures low { IfOk result (λ place. place ≤ 1999999996) }
     ensures room { OnOk result (is_full chain.now.segments (n ∷ []) need ≡ false) }

@@ -1,12 +1,15 @@
 //! Whether the replies of commands are printed.
-ghost use Rattle.std.specs.Prelude.{◌≡◌, IfOk};
+ghost use Rattle.std.specs.Prelude.{◌≡◌, map, IfOk};
 ghost use Rattle.rio_session.specs.Replying.{printed_of, reply_text};
-ghost use Rattle.rio_step.specs.Step.{class_declared, item_deleted, object_put, refused, row_added, rows_saved, tree_made};
+ghost use Rattle.rio_step.specs.KeptItems.{item_of_key};
+ghost use Rattle.rio_step.specs.Step.{class_declared, item_deleted, object_put, objects_put, refused, row_added, rows_saved, tree_made};
 
+use rio_key::KeyHead;
 use rio_machine::Refusal;
 use rio_num::{Bytes, NoMemory};
 use rio_reply::{
-    class_reply, delete_reply, fill_reply, put_reply, refusal_reply, save_reply, tree_reply,
+    batch_reply, class_reply, delete_reply, fill_reply, put_reply, refusal_reply, save_reply,
+    tree_reply,
 };
 use std::alloc::Global;
 
@@ -54,6 +57,21 @@ pub(crate) fn put_text(
 {
     match replies {
         Replies::Printed => put_reply(alloc, name, cycle),
+        Replies::Omitted => Ok(Bytes::new(alloc)),
+    }
+}
+
+/// What is printed of the objects of a batch, by their keys in the order of its puts.
+pub(crate) fn batch_text(
+    alloc: Global,
+    replies: Replies,
+    heads: &[KeyHead],
+) -> Result<Bytes, NoMemory>
+    ensures { IfOk result (λ text. text.bytes
+        ≡ reply_text replies (objects_put (map item_of_key heads.now))) }
+{
+    match replies {
+        Replies::Printed => batch_reply(alloc, heads),
         Replies::Omitted => Ok(Bytes::new(alloc)),
     }
 }

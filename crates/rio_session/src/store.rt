@@ -38,7 +38,7 @@ impl Session {
     }
 
     // The record of an object.
-    fn make(&self, place: u64, object: &StoredObject) -> Result<NewRecord, NoMemory>
+    pub(crate) fn make(&self, place: u64, object: &StoredObject) -> Result<NewRecord, NoMemory>
         requires stored { IsStored self.now.classes object.now }
         requires low { place < 2 ^ 32 }
         ensures { IfOk result (IsStoredRecord self.now place object.now) }

@@ -32,6 +32,7 @@ impl Session {
         match work {
             Work::Class(new) => self.class(host, new, replies),
             Work::Put(object) => self.put(host, &object, replies),
+            Work::Batch(objects) => self.put_all(host, objects.as_slice(), replies),
             Work::Delete(head) => self.delete(host, &head, replies),
             Work::Get { head, version } => self.get(host, &head, version, replies),
             Work::Ls => self.list(host, replies),

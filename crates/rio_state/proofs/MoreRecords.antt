@@ -76,9 +76,14 @@ count_grows (GapAt p n ∷ links) place bytes = by (p == place) (count_grows lin
 same_first : (o : Option KeyedRecord) (r : KeyedRecord) (xs ys : List KeyedRecord) → o ≡ Some r → name_in (cons_option o xs) ≡ name_in (cons_option o ys)
 same_first o r xs ys e = ap (λ (x : Option KeyedRecord). name_in (cons_option x xs)) e ∙ sym (ap (λ (x : Option KeyedRecord). name_in (cons_option x ys)) e)
 
+-- whatever is put behind a record at the start
+pub first_is : (p place : ℕ) (others bytes : List ℕ) (links : List Link) → IsRecord p others
+    → name_in (keyed_records (with_record place bytes (RecordAt p others ∷ links))) ≡ name_in (keyed_records (RecordAt p others ∷ links))
+first_is p place others bytes links first =
+    same_first (record_in_link (RecordAt p others)) (keyed_bytes first.head others) (keyed_records (with_record place bytes links)) (keyed_records links) (keyed_link p others first.head (own_key p others first))
+
 pub first_stays : FirstStays
 first_stays file [] place bytes chain = let late = chain.ends.later in absurd (omega (arith, late))
 first_stays file (RecordAt p others ∷ links) place bytes chain =
-    let first : IsRecord p others = subst (λ (k : ℕ). IsRecord k others) (sym chain.links_are.0.0) chain.links_are.0.1.whole in
-    same_first (record_in_link (RecordAt p others)) (keyed_bytes first.head others) (keyed_records (with_record place bytes links)) (keyed_records links) (keyed_link p others first.head (own_key p others first))
+    first_is p place others bytes links (subst (λ (k : ℕ). IsRecord k others) (sym chain.links_are.0.0) chain.links_are.0.1.whole)
 first_stays file (GapAt p n ∷ links) place bytes chain = let late = chain.links_are.0.1.later in absurd (omega (arith, late))

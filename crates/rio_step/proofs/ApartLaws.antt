@@ -8,11 +8,12 @@ use Rattle.rio_num.specs.Word.{name_order}
 use Rattle.rio_value.specs.declared.value.Value.{Value}
 use Rattle.rio_machine.proofs.OrderLaws.{items_tie, items_total, names_tie, names_total}
 use Rattle.rio_machine.specs.State.{NameAndCycle, State, Tree, item_order, names_object, names_tree, next_cycle}
-use Rattle.rio_machine.specs.declared.command.Command.{Command, TheVariants.{Bad, Class, Put, Delete, Tree as MakeTree, Fill, Save, Get, Scan, Ls}}
+use Rattle.rio_machine.specs.declared.command.Command.{Command, TheVariants.{Bad, Class, Put, Batch, Delete, Tree as MakeTree, Fill, Save, Get, Scan, Ls}}
+use Rattle.rio_machine.specs.declared.command.PutItem.{PutItem}
 use Rattle.rio_machine.specs.declared.refusal.Refusal.{Refusal, TheVariants.{NameIsTree, NameInUse}}
 use Rattle.rio_step.specs.Laws.{AreNamesApart, NamesStayApart}
 use Rattle.rio_step.specs.Refusing.{FullMark, first_of, refusals, is_tree_name, is_name_in_use, refusal_of, refused_if, fill_row, put_value}
-use Rattle.rio_step.specs.Step.{by_refusal, new_tree, state_behind, step, tree_filled, tree_saved, with_tree, without_item}
+use Rattle.rio_step.specs.Step.{by_refusal, new_tree, state_behind, step, tree_filled, tree_saved, with_object, with_objects, with_tree, without_item}
 
 -- ---- a name has an object exactly where one cycle does
 
@@ -132,10 +133,18 @@ pub no_name_in_use : (m : State) (c : Command) (mark : Option FullMark) → refu
 unfolding refusal_of
 no_name_in_use m c mark e = not_refused (is_name_in_use m c) NameInUse (none_at (refusals m c mark) 6 e)
 
+-- objects more, of names that are no trees'
+batch_apart : (puts : List PutItem) (m : State) → list_any (λ p. names_tree m p.name) puts ≡ false → AreNamesApart m → AreNamesApart (with_objects m puts)
+batch_apart [] m none apart = apart
+batch_apart (p ∷ ps) m none apart =
+    let parts = or_parts (names_tree m p.name) (list_any (λ q. names_tree m q.name) ps) none in
+    batch_apart ps (with_object m p.name p.value) parts.1 (put_apart m p.name (next_cycle m p.name) (put_value m p.value) parts.0 apart)
+
 accepted_apart : (m : State) (c : Command) (mark : Option FullMark) → refusal_of m c mark ≡ None → AreNamesApart m → AreNamesApart (state_behind m c)
 accepted_apart m (Bad line place) mark e apart = apart
 accepted_apart m (Class class) mark e apart = apart
 accepted_apart m (Put name v) mark e apart = put_apart m name (next_cycle m name) (put_value m v) (no_tree_name m (Put name v) mark e) apart
+accepted_apart m (Batch puts) mark e apart = batch_apart puts m (no_tree_name m (Batch puts) mark e) apart
 accepted_apart m (Delete name cycle) mark e apart = item_deleted_apart m name cycle apart
 accepted_apart m (MakeTree name branches) mark e apart = tree_apart m name (new_tree branches) ((or_parts _ _ (no_name_in_use m (MakeTree name branches) mark e)).0) apart
 accepted_apart m (Fill name row) mark e apart = changed_apart m name (tree_filled (fill_row m row)) apart

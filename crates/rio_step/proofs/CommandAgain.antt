@@ -1,20 +1,25 @@
 -- What tokens spell as a command is read as it.
-use Rattle.std.proofs.Common.{◌≡◌, ℕ, ◌-◌, ℤ, pos, List, codes, true, false, Option, Some, None, Ok, refl, sym, ◌∙◌, ap, subst}
-use Rattle.rio_num.specs.{At.{At}, Word.{is_item_text, is_name_text}}
+use Rattle.std.proofs.Common.{◌≡◌, ℕ, ◌-◌, ℤ, pos, List, [], ◌∷◌, codes, true, false, Option, Some, None, Ok, refl, sym, ◌∙◌, ap, subst}
+use Rattle.rio_num.specs.{At.{At}, Reading.{◌>>=◌}, Word.{is_item_text, is_name_text}}
 use Rattle.rio_types.specs.{declared.class.Base.{Base}, declared.class.ClassDef.{ClassDef}}
 use Rattle.rio_value.specs.{declared.value.Value.{Value, out-Value, TheOpen.{Value-F}}, declared.value.Part.{Part}}
 use Rattle.rio_value.specs.declared.value.Value.TheOpen as layer
 use Rattle.rio_token.specs.{declared.token.Token.TheVariants.{End}, Reading.{Read, end_at, item_at, marked}, Tokens.{behind, next_at}}
 use Rattle.rio_leaf.specs.declared.branch.BranchDef.{BranchDef}
-use Rattle.rio_model.specs.{Lexemes.{IsNext, Lexeme, Stand, word}, ValueGrammar.{bracket_limit}, ValueSpelling.{ends_here}}
+use Rattle.rio_model.specs.{Lexemes.{IsNext, Lexeme, Stand, word}, ValueGrammar.{bracket_limit, enclosed_at, value_in_text}, ValueSpelling.{ends_here}}
 use Rattle.rio_model.proofs.ClassAgain.{end_again, spelled_classes_are_read}
-use Rattle.rio_model.proofs.LexemeLaws.{bounded_again, mark_again, marked_again, num_again, stand_split, word_not_marked, word_that_again}
-use Rattle.rio_model.proofs.ValueAgain.{spelled_are_read}
-use Rattle.rio_machine.specs.declared.command.Command.{Command, TheVariants.{Bad, Class, Put, Delete, Tree as MakeTree, Fill, Save, Get, Scan, Ls}}
+use Rattle.rio_model.proofs.LexemeLaws.{bounded_again, mark_again, marked_again, num_again, stand_split, then_ok, word_not_marked, word_that_again, word_that_found}
+use Rattle.rio_model.proofs.{ItemLaws.{ItemAgain, some_again}, ValueAgain.{ends_at, spelled_are_read}}
+use Rattle.rio_machine.specs.declared.command.Command.{Command, TheVariants.{Bad, Class, Put, Batch, Delete, Tree as MakeTree, Fill, Save, Get, Scan, Ls}}
+use Rattle.rio_machine.specs.declared.command.PutItem.{PutItem}
 use Rattle.rio_step.specs.CommandLaws.{SpelledCommandsAreRead}
-use Rattle.rio_step.specs.CommandSpelling.{SpellsAskedClass, SpellsAskedVersion, SpellsCommand, SpellsCycle, SpellsIfSome}
-use Rattle.rio_step.specs.Script.{asked_class_at, asked_version_at, command_at, comes_next, cycle_at, delete_command_at, ended_at, fill_command_at, get_command_at, in_version, put_command_at, save_command_at, scan_command_at, tree_command_at}
+use Rattle.rio_step.specs.CommandSpelling.{SpellsAskedClass, SpellsAskedVersion, SpellsCommand, SpellsCycle, SpellsIfSome, SpellsPut}
+use Rattle.rio_step.specs.Script.{asked_class_at, asked_version_at, batch_command_at, batch_put_at, command_at, comes_next, cycle_at, delete_command_at, ended_at, fill_command_at, get_command_at, in_version, put_command_at, save_command_at, scan_command_at, tree_command_at}
 use Rattle.rio_step.proofs.{TellsLaws.{next_again}, TreeAgain.{branches_again}}
+
+-- brackets within those of a batch
+abbrev inner : ℕ
+inner = bracket_limit - 1
 
 -- what follows a value at the end of a line
 value_ends : (y : Value-F Value Part) (t : At) → (next_at t).token ≡ End → ends_here y t ≡ true
@@ -94,6 +99,43 @@ put_again name v ls old here c h end =
     let one = spelled_are_read.value bracket_limit v c.0 (behind (behind old)) here c.3 n.1.1 (value_ends (out-Value v) here end) in
     let done = end_again here end in
     rw (verb, item, one, done) refl
+
+-- a put of a batch
+put_stands : (p : PutItem) (own : List Lexeme) (s t : At) → SpellsPut inner p own → Stand own s t → ends_here (out-Value p.value) t ≡ true → batch_put_at s ≡ Ok (p, t)
+unfolding batch_put_at
+put_stands p own s t c h ends =
+    let n = subst (λ (l : List Lexeme). Stand l s t) c.1 h in
+    let name = item_again p.name s n.0 c.2 in
+    let one = spelled_are_read.value inner p.value c.0 (behind s) t c.3 n.1 ends in
+    rw (name, one) refl
+
+put_begins : (s : At) (x : PutItem × At) → batch_put_at s ≡ Ok x → marked 125 s ≡ false
+unfolding batch_put_at
+put_begins s x h =
+    let a = then_ok (item_at s) (λ name. value_in_text (enclosed_at inner) name.1 >>= λ value. Ok (record { name = name.0; value = value.0 }, value.1)) x.0 x.1 h in
+    word_not_marked a.0.0 125 s (word_that_found is_item_text s a.0.0 a.0.1 a.1).0
+
+put_items : ItemAgain {A = PutItem} 125 (λ before. batch_put_at) (λ before. SpellsPut inner) (λ p. ends_here (out-Value p.value))
+put_items = record {
+  other = refl;
+  comma = λ p s h. ends_at 44 (out-Value p.value) s h refl refl;
+  last = λ p s h. ends_at 125 (out-Value p.value) s h refl refl;
+  begins = λ s x h. put_begins s x h;
+  again = λ front p own s t c h ends. put_stands p own s t c h ends;
+}
+
+batch_again : (puts : List PutItem) (ls : List Lexeme) (old here : At) → SpellsCommand bracket_limit (Batch puts) ls → Stand ls old here → (next_at here).token ≡ End → command_at old ≡ Ok (Batch puts, behind here)
+unfolding command_at batch_command_at
+batch_again [] ls old here c h end = absurd c.2
+batch_again (p ∷ ps) ls old here c h end =
+    let n = subst (λ (l : List Lexeme). Stand l old here) c.1 h in
+    let b = c.2 in
+    let k = subst (λ (l : List Lexeme). Stand l (behind old) here) b.1 n.1 in
+    let verb = next_again (codes "batch") old n.0 in
+    let opening = mark_again 123 (behind old) k.0 in
+    let one = some_again {A = PutItem} 125 (λ before. batch_put_at) (λ before. SpellsPut inner) (λ p. ends_here (out-Value p.value)) put_items p ps b.0 (behind (behind old)) here b.2 k.1 in
+    let done = end_again here end in
+    rw (verb, opening, one, done) refl
 
 delete_again : (name : List ℕ) (cycle : ℕ) (ls : List Lexeme) (old here : At) → SpellsCommand bracket_limit (Delete name cycle) ls → Stand ls old here → (next_at here).token ≡ End → command_at old ≡ Ok (Delete name cycle, behind here)
 unfolding command_at delete_command_at
@@ -187,6 +229,7 @@ stands_again : (c : Command) (ls : List Lexeme) (old here : At) → SpellsComman
 stands_again (Bad line place) ls old here c h end = absurd c
 stands_again (Class class) ls old here c h end = declaration_again class ls old here c h end
 stands_again (Put name v) ls old here c h end = put_again name v ls old here c h end
+stands_again (Batch puts) ls old here c h end = batch_again puts ls old here c h end
 stands_again (Delete name cycle) ls old here c h end = delete_again name cycle ls old here c h end
 stands_again (MakeTree name branches) ls old here c h end = tree_again name branches ls old here c h end
 stands_again (Fill name row) ls old here c h end = fill_again name row ls old here c h end

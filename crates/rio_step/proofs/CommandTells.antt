@@ -1,23 +1,23 @@
 -- Commands: what is read, and the first tokens that can't stand.
 use Rattle.std.proofs.Common.{◌≡◌, ℕ, suc, ◌-◌, ℤ, List, [], ◌∷◌, ◌++◌, codes, true, if◌then◌else◌, Option, None, Ok, refl, sym, ◌∙◌, ap, subst, arith, Bool, false, Err}
 use Rattle.rio_num.specs.{At.{At}, Reading.{◌>>=◌}, Word.{is_item_text}}
-use Rattle.rio_value.specs.{declared.value.Value.{Value, TheOpen.{Value-F}, TheVariants.{outs-Null}}, declared.value.Part.{Part}}
 use Rattle.rio_value.specs.declared.value.Value as value
 use Rattle.rio_leaf.specs.{declared.branch.Shape.TheVariants.{Class as Objects}, declared.branch.BranchDef.{BranchDef}}
 use Rattle.rio_token.specs.{declared.fault.TextFault.{TextFault}, Reading.{Read, bad_at, item_at, mark_at, num_at}, Tokens.{behind}, Words.{num_of}}
 use Rattle.rio_model.specs.{Lexemes.{Lexeme, glued, mark, word}, ValueGrammar.{bracket_limit, enclosed_at, row_at, value_in_text}}
-use Rattle.rio_model.specs.ValueSpelling.{SpellsLayer, SpellsRow, SpellsValue, SpellsWithin}
+use Rattle.rio_model.specs.ValueSpelling.{SpellsRow, SpellsValue}
 use Rattle.rio_model.proofs.{LexemeLaws.{with_place}, ValueTold.{one_is_number}}
-use Rattle.rio_machine.specs.declared.command.Command.{Command, TheVariants.{Put, Delete, Tree as MakeTree, Fill, Save, Get, Scan, Ls}}
+use Rattle.rio_machine.specs.declared.command.Command.{Command, TheVariants.{Put, Batch, Delete, Tree as MakeTree, Fill, Save, Get, Scan, Ls}}
 use Rattle.rio_step.specs.CommandLaws.{BeginIfFew, CommandPlacesAreTold, ReadCommandsAreSpelled, IsFirstBadToken}
 use Rattle.rio_step.specs.CommandSpelling.{SpellsAskedClass, SpellsAskedVersion, SpellsBranch, SpellsCommand, SpellsCycle, SpellsIfSome, SpellsSome}
-use Rattle.rio_step.specs.Script.{asked_class_at, asked_version_at, class_command_at, command_at, comes_next, cycle_at, delete_command_at, ended_at, fill_command_at, get_command_at, put_command_at, save_command_at, scan_command_at, tree_command_at}
+use Rattle.rio_step.specs.Script.{asked_class_at, asked_version_at, batch_command_at, class_command_at, command_at, comes_next, cycle_at, delete_command_at, ended_at, fill_command_at, get_command_at, put_command_at, save_command_at, scan_command_at, tree_command_at}
 use Rattle.rio_step.specs.TreeGrammar.{branches_at}
 use Rattle.rio_step.proofs.AskedTells.{MarkOf, WordOf, asked_class_tells, asked_version_tells, cycle_tells, mark_tells, num_tells, word_test}
+use Rattle.rio_step.proofs.BatchTells.{OfBatch, batched, braces_tells, puts_up}
 use Rattle.rio_step.proofs.{AlikeLaws.{BeginBehind, Tells, bad_there}, ClassTells.{class_line}, BranchTells.{branches_tells}, NamedTells.{Named, named_tells}}
 use Rattle.rio_step.proofs.LineTells.{AfterWord, TellsLine, either_line, first_line, line_tells, no_line}
 use Rattle.rio_step.proofs.TurnLaws.{InTurn, Nothing, handed_tells, nothing_tells, tells_as, turn_tells}
-use Rattle.rio_step.proofs.ValueTells.{row_tells, row_up, value_tells, value_up}
+use Rattle.rio_step.proofs.ValueTells.{null_spelled, row_tells, row_up, value_tells, value_up}
 
 -- ---- something that is spelled
 
@@ -27,10 +27,6 @@ L = bracket_limit
 -- what is begun may have one bracket more
 abbrev above : ℕ
 above = suc bracket_limit
-
-null_spelled : (levels : ℕ) → SpellsValue levels value.Null (word (codes "null") ∷ [])
-unfolding SpellsValue
-null_spelled levels = subst (λ (y : Value-F Value Part). SpellsLayer (SpellsWithin levels) y (word (codes "null") ∷ [])) (sym outs-Null) refl
 
 row_spelled : (levels : ℕ) → SpellsRow levels [] (mark 91 ∷ mark 93 ∷ [])
 unfolding SpellsRow
@@ -49,6 +45,7 @@ branch_spelled = (branch_tokens, [], refl, (glued (word (codes "class")) ∷ glu
 -- one bracket more may be open
 command_up : (c : Command) (ls : List Lexeme) → SpellsCommand L c ls → SpellsCommand above c ls
 command_up (Put name v) ls d = (d.0, d.1, d.2, value_up L v d.0 d.3)
+command_up (Batch puts) ls d = (d.0, d.1, puts_up (L - 1) puts d.0 d.2)
 command_up (Fill name row) ls d = (d.0, d.1, d.2, row_up (L - 1) row d.0 d.3)
 command_up other ls d = d
 
@@ -64,11 +61,12 @@ after_tree_at s =
     else if comes_next (codes "ls") s then ended_at (Ok (Ls, behind s))
     else bad_at s
 
--- declarations, puts and deletes, and other lines
+-- declarations, puts, batches and deletes, and other lines
 abbrev before_tree_at : (At → Read Command) → At → Read Command
 before_tree_at other s =
     if comes_next (codes "class") s then class_command_at s
     else if comes_next (codes "put") s then ended_at (put_command_at (behind s))
+    else if comes_next (codes "batch") s then ended_at (batch_command_at (behind s))
     else if comes_next (codes "delete") s then ended_at (delete_command_at (behind s))
     else other s
 
@@ -221,11 +219,21 @@ module _ (strict : Bool) where
       let save = by_verb (codes "save") save_command_at _ (ended_line (codes "save") save_command_at save_tells) get in
       by_verb (codes "fill") fill_command_at _ (ended_line (codes "fill") fill_command_at fill_tells) save
 
-  -- all lines, by those behind the first three
+  batch_tells : Tells strict batch_command_at (AfterWord (word (codes "batch")) (SpellsCommand L)) (AfterWord (word (codes "batch")) (SpellsCommand above)) 0
+  batch_tells =
+      let inner = bracket_limit - 1 in
+      let W = λ (levels : ℕ). AfterWord (word (codes "batch")) (SpellsCommand levels) in
+      tells_as strict batch_command_at (OfBatch strict inner) (OfBatch strict (suc inner)) (W L) (W above) 0 (braces_tells strict)
+      (λ c ls d. let b = batched strict inner c ls d in subst (λ (e : Command). SpellsCommand L e (word (codes "batch") ∷ ls)) (sym b.1) (ls, refl, b.2))
+      (λ c ls d. let b = batched strict (suc inner) c ls d in subst (λ (e : Command). SpellsCommand above e (word (codes "batch") ∷ ls)) (sym b.1) (ls, refl, b.2))
+      (λ c ls d. command_up c (word (codes "batch") ∷ ls) d)
+
+  -- all lines, by those behind the first four
   from_tree : (other : At → Read Command) → IsLine other → IsLine (before_tree_at other)
   from_tree other t =
       let delete = by_verb (codes "delete") delete_command_at other (ended_line (codes "delete") delete_command_at delete_tells) t in
-      let put = by_verb (codes "put") put_command_at _ (ended_line (codes "put") put_command_at put_tells) delete in
+      let batch = by_verb (codes "batch") batch_command_at _ (ended_line (codes "batch") batch_command_at batch_tells) delete in
+      let put = by_verb (codes "put") put_command_at _ (ended_line (codes "put") put_command_at put_tells) batch in
       first_line strict (comes_next (codes "class")) (word (codes "class")) (word_test strict (codes "class")) class_command_at _ (SpellsCommand L) (SpellsCommand above) (class_line strict L above command_up) put
 
 tree_tells : Tells true tree_command_at (AfterWord (word (codes "tree")) (SpellsCommand L)) (AfterWord (word (codes "tree")) (SpellsCommand above)) 0

@@ -5,14 +5,14 @@ use Rattle.std.specs.{Prelude.{nat_lt}, List.{fold, list_all, list_any, flat_map
 use Rattle.std.specs.{Str.{bytes_eq}, Fmt.{signed_decimal}}
 use Rattle.rio_format.specs.WrittenBytes.{length_limit}
 use Rattle.rio_machine.specs.State.{State, Tree, names_tree}
-use Rattle.rio_machine.specs.declared.command.Command.{Command, TheVariants.{Bad, Class, Put, Delete, Tree as MakeTree, Fill, Save, Get, Scan, Ls}}
+use Rattle.rio_machine.specs.declared.command.Command.{Command, TheVariants.{Bad, Class, Put, Batch, Delete, Tree as MakeTree, Fill, Save, Get, Scan, Ls}}
 use Rattle.rio_machine.specs.declared.refusal.Refusal.{Refusal, TheVariants.{BadName, NoSuchClass as Lacks, SameVersion as Same, HoldsItself as Holds, TooLarge as Large, TooMany as Many}}
 use Rattle.rio_model.specs.{declared.declare.DeclareFault.TheVariants.{NoSuchClass, SameVersion, HoldsItself, TooMany}, ClassGrammar.{checksum_of, summed}}
 use Rattle.rio_model.specs.ClassText.{bases_text, base_text, members_text, text_of_class}
 use Rattle.rio_model.specs.Declaring.{any_inline, any_within, base_declared, declared, holds_itself, is_built_in_base, is_reserved_name, is_known, knows_all, knows_kind, reaches}
 use Rattle.rio_model.specs.{Lists.{separated}, StateClasses.{AreAccepted, HasShortList, IsDeclared, StateClasses}}
 use Rattle.rio_model.specs.Stated.{are_stated_bases, are_stated_members, has_stated_parts, is_class_version, is_stated_base, is_stated_class}
-use Rattle.rio_step.proofs.ApartLaws.{none_at, not_refused}
+use Rattle.rio_step.proofs.{ApartLaws.{none_at, not_refused}, BatchLaws.{same_classes as batch_classes}}
 use Rattle.rio_step.specs.Refusing.{FullMark, fill_row, has_bad_name, has_too_many, is_same_version, is_too_large, lacks_class, refusal_of, refusals, with_class, would_hold_itself}
 use Rattle.rio_step.specs.{Statable.{ClassesStayDeclared, is_statable}, Step.{by_refusal, state_behind, step, tree_filled, tree_saved}}
 use Rattle.rio_num.specs.{Printed.{name_text}, Word.{is_name_text}}
@@ -146,6 +146,7 @@ behind_declared : (m : State) (c : Command) (mark : Option FullMark) → is_stat
 behind_declared m (Bad line place) mark stated e all = all
 behind_declared m (Class class) mark stated e all = one_more_accepted [] m.classes (declared m.classes class) all (accepted_declares m class mark stated e) (accepted_short m class mark e)
 behind_declared m (Put name v) mark stated e all = all
+behind_declared m (Batch puts) mark stated e all = subst (λ (classes : List ClassDef). StateClasses classes) (sym (batch_classes puts m)) all
 behind_declared m (Delete name cycle) mark stated e all = same_classes (names_tree m name)
   where
     same_classes : (b : Bool) → StateClasses (if b then record m { trees = remove m.trees name } else record m { objects = remove m.objects (name, cycle) }).classes

@@ -6,14 +6,15 @@ use Rattle.rio_num.specs.Word.{is_item_text, name_order}
 use Rattle.rio_leaf.specs.{declared.branch.BranchDef.{BranchDef}, Stated.{are_stated_branches}}
 use Rattle.rio_types.specs.declared.class.ClassDef.{ClassDef}
 use Rattle.rio_machine.specs.Limits.{has_long_entry}
-use Rattle.rio_machine.specs.declared.command.Command.{Command, TheVariants.{Bad, Class, Put, Delete, Tree as MakeTree, Fill, Save, Get, Scan, Ls}}
+use Rattle.rio_machine.specs.declared.command.Command.{Command, TheVariants.{Bad, Class, Put, Batch, Delete, Tree as MakeTree, Fill, Save, Get, Scan, Ls}}
+use Rattle.rio_machine.specs.declared.command.PutItem.{PutItem}
 use Rattle.rio_machine.specs.declared.refusal.Refusal.{Refusal, TheVariants.{BadName, NoSuchClass, TooLarge, TooDeep, TooMany}}
 use Rattle.rio_machine.specs.State.{Row, State, Tree, empty_state, names_tree}
 use Rattle.rio_model.specs.Declaring.{declared}
 use Rattle.rio_step.proofs.{ApartLaws.{names_stay_apart, none_at, not_refused}, DeclaredLaws.{classes_stay_declared}, FitStays.{all_pushed, unrefused_row}}
 use Rattle.rio_step.proofs.StorableLaws.{no_tree, not_passed, rows_same, shapes_same, tree_out, tree_put_in}
 use Rattle.rio_step.specs.Refusing.{FullMark, fill_row, goes_too_deep, has_too_many, is_list_name, is_too_large, lacks_class, refusal_of, refusals}
-use Rattle.rio_step.specs.{Statable.{is_statable}, Step.{by_refusal, new_tree, state_behind, step, tree_filled, tree_saved, with_tree, without_item}}
+use Rattle.rio_step.specs.{Statable.{is_statable}, Step.{by_refusal, new_tree, state_behind, step, tree_filled, tree_saved, with_object, with_objects, with_tree, without_item}}
 use Rattle.rio_step.specs.Storable.{IsFillable, IsFillableTree, IsTreeName, StaysFillable, is_stored_row}
 
 -- what holds of the trees of a state
@@ -91,10 +92,15 @@ rows_saved_in m name h =
     let old = h.trees name t is in
     record { stated = old.stated; few = old.few; known = old.known; rows = refl }) h
 
+batch_in : (puts : List PutItem) (m : State) → TreesHold m → TreesHold (with_objects m puts)
+batch_in [] m h = h
+batch_in (p ∷ ps) m h = batch_in ps (with_object m p.name p.value) (record { names = h.names; trees = h.trees })
+
 behind_holds : (m : State) (c : Command) (mark : Option FullMark) → is_statable c ≡ true → refusal_of m c mark ≡ None → TreesHold m → TreesHold (state_behind m c)
 behind_holds m (Bad line place) mark stated e h = h
 behind_holds m (Class class) mark stated e h = class_in m (declared m.classes class) h
 behind_holds m (Put name v) mark stated e h = record { names = h.names; trees = h.trees }
+behind_holds m (Batch puts) mark stated e h = batch_in puts m h
 behind_holds m (Delete name cycle) mark stated e h = item_out m name cycle h
 behind_holds m (MakeTree name branches) mark stated e h = tree_made_in m name branches mark stated e h
 behind_holds m (Fill name row) mark stated e h = row_in m name row mark e h

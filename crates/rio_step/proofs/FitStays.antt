@@ -10,13 +10,14 @@ use Rattle.rio_format.specs.{Bodies.{Counters}, Fits.{Labels, fits, fitting_of},
 use Rattle.rio_machine.proofs.OrderLaws.{items_total, names_total}
 use Rattle.rio_machine.specs.Rows.{Column, column_slot, columns_fit, columns_of, leaf_numbers_behind, row_fits, stands_in}
 use Rattle.rio_machine.specs.State.{NameAndCycle, Row, State, Tree, item_order, names_tree, next_cycle}
-use Rattle.rio_machine.specs.declared.command.Command.{Command, TheVariants.{Bad, Class, Put, Delete, Tree as MakeTree, Fill, Save, Get, Scan, Ls}}
+use Rattle.rio_machine.specs.declared.command.Command.{Command, TheVariants.{Bad, Class, Put, Batch, Delete, Tree as MakeTree, Fill, Save, Get, Scan, Ls}}
+use Rattle.rio_machine.specs.declared.command.PutItem.{PutItem}
 use Rattle.rio_machine.specs.declared.refusal.Refusal.{Refusal, TheVariants.{DoesNotFit, BadRow}}
 use Rattle.rio_model.specs.Declaring.{declared}
-use Rattle.rio_step.proofs.{ApartLaws.{none_at, not_refused}, GrowthLaws.{slot_more}}
-use Rattle.rio_step.specs.Laws.{AllFit, AllStayFit, FitsStay}
+use Rattle.rio_step.proofs.{ApartLaws.{none_at, not_refused}, BatchTaken.{batch_taken}, GrowthLaws.{slot_more}}
+use Rattle.rio_step.specs.Laws.{AllFit, AllStayFit, AreTaken, FitsStay}
 use Rattle.rio_step.specs.Refusing.{FullMark, fill_row, is_bad_row, is_fit, is_unfit, object_class, put_value, refusal_of, refusals, rows_of_tree}
-use Rattle.rio_step.specs.Step.{by_refusal, new_tree, state_behind, step, tree_filled, tree_saved, with_tree, without_item}
+use Rattle.rio_step.specs.Step.{by_refusal, new_tree, state_behind, step, tree_filled, tree_saved, with_object, with_objects, with_tree, without_item}
 
 -- ---- one class more
 
@@ -147,10 +148,16 @@ class_more_fit m class all = record {
   rows = λ k t e. rows_more m.classes class t.branches (rows_of_tree t) (all.rows k t e);
 }
 
+batch_fit : (puts : List PutItem) (m : State) → AreTaken m puts → AllFit m → AllFit (with_objects m puts)
+batch_fit [] m taken all = all
+batch_fit (p ∷ ps) m taken all =
+    batch_fit ps (with_object m p.name p.value) taken.1 (put_fit m (p.name, next_cycle m p.name) (put_value m p.value) (unrefused_fit m p.name p.value None taken.0) all)
+
 behind_fit : (m : State) (c : Command) (mark : Option FullMark) → refusal_of m c mark ≡ None → AllFit m → AllFit (state_behind m c)
 behind_fit m (Bad line place) mark e all = all
 behind_fit m (Class class) mark e all = class_more_fit m (declared m.classes class) all
 behind_fit m (Put name v) mark e all = put_fit m (name, next_cycle m name) (put_value m v) (unrefused_fit m name v mark e) all
+behind_fit m (Batch puts) mark e all = batch_fit puts m (batch_taken m puts mark e) all
 behind_fit m (Delete name cycle) mark e all = without_fit m name cycle all
 behind_fit m (MakeTree name branches) mark e all = tree_fit m name (new_tree branches) refl all
 behind_fit m (Fill name row) mark e all = changed_fit m name (tree_filled (fill_row m row)) (λ t is fit. filled_fit m (fill_row m row) t (unrefused_row m name row mark e t is) fit) all

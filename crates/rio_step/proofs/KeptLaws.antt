@@ -6,11 +6,12 @@ use Rattle.rio_num.specs.Word.{name_order}
 use Rattle.rio_value.specs.declared.value.Value.{Value}
 use Rattle.rio_machine.proofs.OrderLaws.{items_tie, items_total, names_tie, names_total}
 use Rattle.rio_machine.specs.State.{NameAndCycle, Row, State, Tree, item_order, names_object, names_tree, next_cycle}
-use Rattle.rio_machine.specs.declared.command.Command.{Command, TheVariants.{Bad, Class, Put, Delete, Tree as MakeTree, Fill, Save, Get, Scan, Ls}}
+use Rattle.rio_machine.specs.declared.command.Command.{Command, TheVariants.{Bad, Class, Put, Batch, Delete, Tree as MakeTree, Fill, Save, Get, Scan, Ls}}
+use Rattle.rio_machine.specs.declared.command.PutItem.{PutItem}
 use Rattle.rio_machine.specs.declared.refusal.Refusal.{Refusal}
-use Rattle.rio_step.proofs.{ApartLaws.{no_name_in_use}, StepLaws.{next_is_free}}
+use Rattle.rio_step.proofs.{ApartLaws.{no_name_in_use}, BatchLaws.{same_trees}, StepLaws.{next_is_free}}
 use Rattle.rio_step.specs.{Laws.{HasRowsOf, Keeps, KeepsRows, NothingIsLost, is_delete}, Refusing.{FullMark, fill_row, put_value, refusal_of, rows_of_tree}}
-use Rattle.rio_step.specs.Step.{by_refusal, new_tree, state_behind, step, tree_filled, tree_saved, with_tree}
+use Rattle.rio_step.specs.Step.{by_refusal, new_tree, state_behind, step, tree_filled, tree_saved, with_object, with_objects, with_tree}
 
 -- ---- objects
 
@@ -21,10 +22,16 @@ put_keeps m item v free k x e = get-insert items_total m.objects item v k ∙ by
     by true is = absurd (let same = tells_apart items_tie k item is in let h = sym e ∙ ap (get m.objects) same ∙ free in cc)
     by false is = e
 
+batch_keeps : (puts : List PutItem) (m : State) → Keeps m.objects (with_objects m puts).objects
+batch_keeps [] m k x e = e
+batch_keeps (p ∷ ps) m k x e =
+    batch_keeps ps (with_object m p.name p.value) k x (put_keeps m (p.name, next_cycle m p.name) (put_value m p.value) (next_is_free m p.name) k x e)
+
 objects_behind : (m : State) (c : Command) → is_delete c ≡ false → Keeps m.objects (state_behind m c).objects
 objects_behind m (Bad line place) d k x e = e
 objects_behind m (Class class) d k x e = e
 objects_behind m (Put name v) d k x e = put_keeps m (name, next_cycle m name) (put_value m v) (next_is_free m name) k x e
+objects_behind m (Batch puts) d k x e = batch_keeps puts m k x e
 objects_behind m (Delete name cycle) d k x e = absurd cc
 objects_behind m (MakeTree name branches) d k x e = e
 objects_behind m (Fill name row) d k x e = with_same (get m.trees name)
@@ -83,6 +90,7 @@ rows_behind : (m : State) (c : Command) (mark : Option FullMark) → refusal_of 
 rows_behind m (Bad line place) mark a d k t e = (t, e, same_rows t)
 rows_behind m (Class class) mark a d k t e = (t, e, same_rows t)
 rows_behind m (Put name v) mark a d k t e = (t, e, same_rows t)
+rows_behind m (Batch puts) mark a d k t e = (t, ap (λ trees. get trees k) (same_trees puts m) ∙ e, same_rows t)
 rows_behind m (Delete name cycle) mark a d k t e = absurd cc
 rows_behind m (MakeTree name branches) mark a d k t e = made_rows m name (new_tree branches) ((or_parts (names_object m name) (names_tree m name) (no_name_in_use m (MakeTree name branches) mark a)).1) k t e
 rows_behind m (Fill name row) mark a d k t e = changed_rows m name (tree_filled (fill_row m row)) (filled_rows (fill_row m row)) k t e

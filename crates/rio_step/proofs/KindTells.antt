@@ -193,10 +193,10 @@ module _ (strict : Bool) where
   one_member front = member_tells front (0 + length front) (omega arith)
 
   abbrev pub Members : List Member → List Lexeme → Type 0
-  Members = ListOf strict 125 member_at SpellsMember 0 one_member member_takes some_member
+  Members = ListOf strict 125 member_at SpellsMember SpellsMember 0 one_member member_takes some_member SpellsMember
 
   pub members_tells : Tells strict (list_at 125 member_at) Members Members 0
-  members_tells = list_tells strict 125 member_at SpellsMember 0 one_member member_takes some_member
+  members_tells = list_tells strict 125 member_at SpellsMember SpellsMember 0 one_member member_takes some_member
 
   -- ---- bases
 
@@ -210,14 +210,14 @@ module _ (strict : Bool) where
   one_base front = base_tells front (0 + length front) (omega arith)
 
   abbrev SomeBases : List Base → List Lexeme → Type 0
-  SomeBases = SomeOf strict 123 base_at SpellsBase 0 one_base base_takes some_base
+  SomeBases = SomeOf strict 123 base_at SpellsBase SpellsBase 0 one_base base_takes some_base SpellsBase
 
   pub bases_tells : Tells strict bases_at SpellsBases SpellsBases 0
   unfolding bases_at
   bases_tells =
       tells_as strict (λ s. bases_at s) (EitherOf (Behind (mark 58) SomeBases) NoBases) (EitherOf (Behind (mark 58) SomeBases) NoBases) SpellsBases SpellsBases 0
       (choice_tells strict (marked 58) (mark 58) (mark_test strict 58) (some_at 123 base_at) (λ s. mark_at 123 s >>= with_place (λ u. [])) SomeBases SomeBases NoBases NoBases 0
-      (some_tells strict 123 base_at SpellsBase 0 one_base base_takes some_base)
+      (some_tells strict 123 base_at SpellsBase SpellsBase 0 one_base base_takes some_base)
       (handed_tells strict (mark_at 123) (λ u. []) (MarkOf 123) (MarkOf 123) NoBases NoBases 0 (mark_tells strict 123 0) (λ u ls c. (refl, c)) (λ u ls c. (refl, c)) (λ y ls c. c)))
       to to (λ y ls c. c)
     where

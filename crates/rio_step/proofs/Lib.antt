@@ -1,6 +1,9 @@
 pub mod AlikeLaws
 pub mod ApartLaws
 pub mod AskedTells
+pub mod BatchLaws
+pub mod BatchTaken
+pub mod BatchTells
 pub mod BranchTells
 pub mod ClassTells
 pub mod ClosedLaws

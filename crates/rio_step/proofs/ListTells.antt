@@ -22,28 +22,28 @@ module _ (strict : Bool) where
         record { before = b.before; here = b.here; cut = b.cut; stands = b.stands; unended = b.unended; told = b.told; always = λ u v st. same u ∙ b.always u v st; begins = b.begins };
   }
 
-  module _ {A : Type 0} (close : ℕ) (item : List A → At → Read A) (Spells : List A → A → List Lexeme → Type 0) (n : ℕ)
-      (one : (front : List A) → Tells strict (item front) (Spells front) (Spells front) (n + length front))
+  module _ {A : Type 0} (close : ℕ) (item : List A → At → Read A) (Spells Above : List A → A → List Lexeme → Type 0) (n : ℕ)
+      (one : (front : List A) → Tells strict (item front) (Spells front) (Above front) (n + length front))
       (takes : (front : List A) (x : A) (own : List Lexeme) → Spells front x own → 0 < length own)
-      (some : (front : List A) → n + length front < 2 ^ 32 → (x : A) × (own : List Lexeme) × Spells front x own) where
+      (some : (front : List A) → n + length front < 2 ^ 32 → (x : A) × (own : List Lexeme) × Above front x own) where
     -- a comma and an item
     comma_item : List A → At → Read A
     comma_item front s = mark_at 44 s >>= λ passed. item front passed.1
 
-    abbrev CommaItem : List A → A → List Lexeme → Type 0
-    CommaItem front = InTurn (MarkOf 44) (λ u. Spells front)
+    abbrev CommaItem : (List A → A → List Lexeme → Type 0) → List A → A → List Lexeme → Type 0
+    CommaItem S front = InTurn (MarkOf 44) (λ u. S front)
 
     -- another one begins
     abbrev goes : At → Bool
     goes s = not (marked close s) && not (is_end (next_at s).token)
 
-    comma_tells : (front : List A) → Tells strict (comma_item front) (CommaItem front) (CommaItem front) (n + length front)
+    comma_tells : (front : List A) → Tells strict (comma_item front) (CommaItem Spells front) (CommaItem Above front) (n + length front)
     unfolding comma_item
     comma_tells front =
-        turn_tells strict (mark_at 44) (λ u m. item front m) (MarkOf 44) (MarkOf 44) (λ u. Spells front) (λ u. Spells front) (n + length front) (λ u. n + length front)
+        turn_tells strict (mark_at 44) (λ u m. item front m) (MarkOf 44) (MarkOf 44) (λ u. Spells front) (λ u. Above front) (n + length front) (λ u. n + length front)
         (mark_tells strict 44 (n + length front)) (λ u. one front) (λ x own c. omega arith) (λ u few. some front few)
 
-    comma_takes : (front : List A) (x : A) (own : List Lexeme) → CommaItem front x own → 0 < length own
+    comma_takes : (front : List A) (x : A) (own : List Lexeme) → CommaItem Spells front x own → 0 < length own
     comma_takes front x own c =
         let all = ap (λ (l : List Lexeme). length l) c.3 in
         let comma = ap (λ (l : List Lexeme). length l) c.4 in
@@ -57,7 +57,7 @@ module _ (strict : Bool) where
     stops : (t : At) → (next_at t).token ≡ End → goes t ≡ false
     stops t h = rw h refl
 
-    more_items : ItemTells strict goes comma_item CommaItem CommaItem (λ front. length front) n
+    more_items : ItemTells strict goes comma_item (CommaItem Spells) (CommaItem Above) (λ front. length front) n
     more_items = record {
       one = comma_tells;
       same = goes_same;
@@ -159,15 +159,22 @@ module _ (strict : Bool) where
     abbrev rest_at : List A → At → Read (List A)
     rest_at front s = more_at (length s.rest) close item front s
 
-    abbrev pub RestList : List A → List A → List Lexeme → Type 0
-    RestList front ys ls = (xs : List A) × (inside : List Lexeme) × (ys ≡ front ++ xs) × SpellsFurther Spells front xs inside × (ls ≡ inside ++ mark close ∷ [])
+    abbrev pub RestList : (List A → A → List Lexeme → Type 0) → List A → List A → List Lexeme → Type 0
+    RestList S front ys ls = (xs : List A) × (inside : List Lexeme) × (ys ≡ front ++ xs) × SpellsFurther S front xs inside × (ls ≡ inside ++ mark close ∷ [])
 
-    commas : (xs front : List A) (ls : List Lexeme) → SpellsEach CommaItem front xs ls → SpellsFurther Spells front xs ls
-    commas [] front ls c = c
-    commas (x ∷ xs) front ls c =
+    commas : (S : List A → A → List Lexeme → Type 0) (xs front : List A) (ls : List Lexeme) → SpellsEach (CommaItem S) front xs ls → SpellsFurther S front xs ls
+    commas S [] front ls c = c
+    commas S (x ∷ xs) front ls c =
         let d = c.3 in
         let own : c.0 ≡ mark 44 ∷ d.2 = d.3 ∙ ap (λ (l : List Lexeme). l ++ d.2) d.4 in
-        (d.2, c.1, c.2 ∙ ap (λ (l : List Lexeme). l ++ c.1) own, d.5, commas xs (front ++ x ∷ []) c.1 c.4)
+        (d.2, c.1, c.2 ∙ ap (λ (l : List Lexeme). l ++ c.1) own, d.5, commas S xs (front ++ x ∷ []) c.1 c.4)
+
+    further_up : (xs front : List A) (ls : List Lexeme) → SpellsFurther Spells front xs ls → SpellsFurther Above front xs ls
+    further_up [] front ls c = c
+    further_up (x ∷ xs) front ls c = (c.0, c.1, c.2, (one front).up x c.0 c.3, further_up xs (front ++ x ∷ []) c.1 c.4)
+
+    rest_up : (front ys : List A) (ls : List Lexeme) → RestList Spells front ys ls → RestList Above front ys ls
+    rest_up front ys ls c = (c.0, c.1, c.2, further_up c.0 front c.1 c.3, c.4)
 
     abbrev Closing : List A → List A → List Lexeme → Type 0
     Closing xs ys ls = (ys ≡ xs) × (ls ≡ mark close ∷ [])
@@ -175,57 +182,66 @@ module _ (strict : Bool) where
     closing_tells : (xs : List A) (k : ℕ) → Tells strict (λ m. mark_at close m >>= λ u. Ok (xs, u.1)) (Closing xs) (Closing xs) k
     closing_tells xs k = handed_tells strict (mark_at close) (λ u. xs) (MarkOf close) (MarkOf close) (Closing xs) (Closing xs) k (mark_tells strict close k) (λ u ls c. (refl, c)) (λ u ls c. (refl, c)) (λ y ls c. c)
 
-    closed_tells : (front : List A) → Tells strict (λ s. further (length s.rest) front s >>= λ xs. mark_at close xs.1 >>= λ u. Ok (xs.0, u.1)) (InTurn (Rest CommaItem front) Closing) (InTurn (Rest CommaItem front) Closing) (n + length front)
+    closed_tells : (front : List A) → Tells strict (λ s. further (length s.rest) front s >>= λ xs. mark_at close xs.1 >>= λ u. Ok (xs.0, u.1)) (InTurn (Rest (CommaItem Spells) front) Closing) (InTurn (Rest (CommaItem Above) front) Closing) (n + length front)
     closed_tells front =
-        turn_tells strict (λ s. further (length s.rest) front s) (λ xs m. mark_at close m >>= λ u. Ok (xs, u.1)) (Rest CommaItem front) (Rest CommaItem front) Closing Closing (n + length front) (λ xs. n + length front)
-        (rest_tells strict goes comma_item CommaItem CommaItem (λ own. length own) n more_items front) (λ xs. closing_tells xs (n + length front)) (λ x own c. omega arith) (λ xs few. (xs, mark close ∷ [], (refl, refl)))
+        turn_tells strict (λ s. further (length s.rest) front s) (λ xs m. mark_at close m >>= λ u. Ok (xs, u.1)) (Rest (CommaItem Spells) front) (Rest (CommaItem Above) front) Closing Closing (n + length front) (λ xs. n + length front)
+        (rest_tells strict goes comma_item (CommaItem Spells) (CommaItem Above) (λ own. length own) n more_items front) (λ xs. closing_tells xs (n + length front)) (λ x own c. omega arith) (λ xs few. (xs, mark close ∷ [], (refl, refl)))
 
-    rest_spelled : (front ys : List A) (ls : List Lexeme) → InTurn (Rest CommaItem front) Closing ys ls → RestList front ys ls
-    rest_spelled front ys ls c =
+    rest_spelled : (S : List A → A → List Lexeme → Type 0) (front ys : List A) (ls : List Lexeme) → InTurn (Rest (CommaItem S) front) Closing ys ls → RestList S front ys ls
+    rest_spelled S front ys ls c =
         let r = c.4 in
-        (r.0, c.1, c.5.0 ∙ r.1, commas r.0 front c.1 r.2, c.3 ∙ ap (λ (l : List Lexeme). c.1 ++ l) c.5.1)
+        (r.0, c.1, c.5.0 ∙ r.1, commas S r.0 front c.1 r.2, c.3 ∙ ap (λ (l : List Lexeme). c.1 ++ l) c.5.1)
 
-    pub rest_list_tells : (front : List A) → Tells strict (rest_at front) (RestList front) (RestList front) (n + length front)
+    pub rest_list_tells : (front : List A) → Tells strict (rest_at front) (RestList Spells front) (RestList Above front) (n + length front)
     unfolding closing
     rest_list_tells front =
-        tells_as strict (rest_at front) (InTurn (Rest CommaItem front) Closing) (InTurn (Rest CommaItem front) Closing) (RestList front) (RestList front) (n + length front)
-        (tells_equal (λ s. further (length s.rest) front s >>= λ xs. mark_at close xs.1 >>= λ u. Ok (xs.0, u.1)) (rest_at front) (InTurn (Rest CommaItem front) Closing) (InTurn (Rest CommaItem front) Closing) (n + length front)
+        tells_as strict (rest_at front) (InTurn (Rest (CommaItem Spells) front) Closing) (InTurn (Rest (CommaItem Above) front) Closing) (RestList Spells front) (RestList Above front) (n + length front)
+        (tells_equal (λ s. further (length s.rest) front s >>= λ xs. mark_at close xs.1 >>= λ u. Ok (xs.0, u.1)) (rest_at front) (InTurn (Rest (CommaItem Spells) front) Closing) (InTurn (Rest (CommaItem Above) front) Closing) (n + length front)
         (λ s. as_further (length s.rest) front s (omega arith)) (closed_tells front))
-        (rest_spelled front) (rest_spelled front) (λ y ls c. c)
+        (rest_spelled Spells front) (rest_spelled Above front) (rest_up front)
 
     -- ---- lists
 
     -- items and the closing mark
-    abbrev pub ListOf : List A → List Lexeme → Type 0
-    ListOf xs ls = (inside : List Lexeme) × (ls ≡ inside ++ mark close ∷ []) × SpellsItems Spells xs inside
+    abbrev pub ListOf : (List A → A → List Lexeme → Type 0) → List A → List Lexeme → Type 0
+    ListOf S xs ls = (inside : List Lexeme) × (ls ≡ inside ++ mark close ∷ []) × SpellsItems S xs inside
 
     -- at least one
-    abbrev pub SomeOf : List A → List Lexeme → Type 0
-    SomeOf ys ls = (x : A) × (xs : List A) × (ys ≡ x ∷ xs) × ListOf (x ∷ xs) ls
+    abbrev pub SomeOf : (List A → A → List Lexeme → Type 0) → List A → List Lexeme → Type 0
+    SomeOf S ys ls = (x : A) × (xs : List A) × (ys ≡ x ∷ xs) × ListOf S (x ∷ xs) ls
 
-    some_spelled : (ys : List A) (ls : List Lexeme) → InTurn (Spells []) (λ x. RestList (x ∷ [])) ys ls → SomeOf ys ls
-    some_spelled ys ls c =
+    some_spelled : (S : List A → A → List Lexeme → Type 0) (ys : List A) (ls : List Lexeme) → InTurn (S []) (λ x. RestList S (x ∷ [])) ys ls → SomeOf S ys ls
+    some_spelled S ys ls c =
         let r = c.5 in
         (c.0, r.0, r.2, (c.1 ++ r.1, c.3 ∙ ap (λ (l : List Lexeme). c.1 ++ l) r.4 ∙ sym (append_assoc c.1 r.1 (mark close ∷ [])), (c.1, r.1, refl, c.4, r.3)))
 
-    pub some_tells : Tells strict (some_at close item) SomeOf SomeOf n
+    list_up : (xs : List A) (ls : List Lexeme) → ListOf Spells xs ls → ListOf Above xs ls
+    list_up [] ls c = c
+    list_up (x ∷ xs) ls c =
+        let items = c.2 in
+        (c.0, c.1, (items.0, items.1, items.2, (one []).up x items.0 items.3, further_up xs (x ∷ []) items.1 items.4))
+
+    some_up : (ys : List A) (ls : List Lexeme) → SomeOf Spells ys ls → SomeOf Above ys ls
+    some_up ys ls c = (c.0, c.1, c.2, list_up (c.0 ∷ c.1) ls c.3)
+
+    pub some_tells : Tells strict (some_at close item) (SomeOf Spells) (SomeOf Above) n
     unfolding some_at
     some_tells =
         let start = n + length {A = A} [] in
         let t =
-        tells_as strict (λ s. item [] s >>= λ x. rest_at (x.0 ∷ []) x.1) (InTurn (Spells []) (λ x. RestList (x ∷ []))) (InTurn (Spells []) (λ x. RestList (x ∷ []))) SomeOf SomeOf start
-        (turn_tells strict (item []) (λ x. rest_at (x ∷ [])) (Spells []) (Spells []) (λ x. RestList (x ∷ [])) (λ x. RestList (x ∷ [])) start (λ x. n + length (x ∷ []))
+        tells_as strict (λ s. item [] s >>= λ x. rest_at (x.0 ∷ []) x.1) (InTurn (Spells []) (λ x. RestList Spells (x ∷ []))) (InTurn (Above []) (λ x. RestList Above (x ∷ []))) (SomeOf Spells) (SomeOf Above) start
+        (turn_tells strict (item []) (λ x. rest_at (x ∷ [])) (Spells []) (Above []) (λ x. RestList Spells (x ∷ [])) (λ x. RestList Above (x ∷ [])) start (λ x. n + length (x ∷ []))
         (one []) (λ x. rest_list_tells (x ∷ [])) (λ x own c. let some = takes [] x own c in omega (arith, some)) (λ x few. (x ∷ [], mark close ∷ [], ([], [], refl, refl, refl))))
-        some_spelled some_spelled (λ y ls c. c) in
-        fewer strict (λ s. item [] s >>= λ x. rest_at (x.0 ∷ []) x.1) SomeOf SomeOf start n (omega arith) t
+        (some_spelled Spells) (some_spelled Above) some_up in
+        fewer strict (λ s. item [] s >>= λ x. rest_at (x.0 ∷ []) x.1) (SomeOf Spells) (SomeOf Above) start n (omega arith) t
 
-    list_spelled : (xs : List A) (ls : List Lexeme) → EitherOf (Behind (mark close) (Nothing [])) SomeOf xs ls → ListOf xs ls
-    list_spelled xs ls (inl c) = subst (λ (l : List A). ListOf l ls) (sym c.2.0) ([], c.1 ∙ ap (λ (l : List Lexeme). mark close ∷ l) c.2.1, refl)
-    list_spelled xs ls (inr c) = subst (λ (l : List A). ListOf l ls) (sym c.2) c.3
+    list_spelled : (S : List A → A → List Lexeme → Type 0) (xs : List A) (ls : List Lexeme) → EitherOf (Behind (mark close) (Nothing [])) (SomeOf S) xs ls → ListOf S xs ls
+    list_spelled S xs ls (inl c) = subst (λ (l : List A). ListOf S l ls) (sym c.2.0) ([], c.1 ∙ ap (λ (l : List Lexeme). mark close ∷ l) c.2.1, refl)
+    list_spelled S xs ls (inr c) = subst (λ (l : List A). ListOf S l ls) (sym c.2) c.3
 
-    pub list_tells : Tells strict (list_at close item) ListOf ListOf n
+    pub list_tells : Tells strict (list_at close item) (ListOf Spells) (ListOf Above) n
     unfolding list_at
     list_tells =
-        tells_as strict (λ s. list_at close item s) (EitherOf (Behind (mark close) (Nothing [])) SomeOf) (EitherOf (Behind (mark close) (Nothing [])) SomeOf) ListOf ListOf n
-        (choice_tells strict (marked close) (mark close) (mark_test strict close) (λ s. Ok ([], s)) (some_at close item) (Nothing []) (Nothing []) SomeOf SomeOf n (nothing_tells strict [] n) some_tells)
-        list_spelled list_spelled (λ y ls c. c)
+        tells_as strict (λ s. list_at close item s) (EitherOf (Behind (mark close) (Nothing [])) (SomeOf Spells)) (EitherOf (Behind (mark close) (Nothing [])) (SomeOf Above)) (ListOf Spells) (ListOf Above) n
+        (choice_tells strict (marked close) (mark close) (mark_test strict close) (λ s. Ok ([], s)) (some_at close item) (Nothing []) (Nothing []) (SomeOf Spells) (SomeOf Above) n (nothing_tells strict [] n) some_tells)
+        (list_spelled Spells) (list_spelled Above) list_up

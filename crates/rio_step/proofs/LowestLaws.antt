@@ -3,7 +3,7 @@ use Rattle.std.proofs.Common.{◌≡◌, ◌<◌, ◌≤◌, ℕ, zero, suc, ◌
 use Rattle.std.proofs.lemmas.Option.{same_Some}
 use Rattle.std.specs.{List.{slice_get}, FinMap.{get}, Prelude.{option_and_then}}
 use Rattle.rio_machine.specs.{RefusalText.{refusal_number}, State.{State}}
-use Rattle.rio_machine.specs.declared.command.Command.{Command, TheVariants.{Bad, Class, Put, Delete, Tree as MakeTree, Fill, Save, Get, Scan, Ls}}
+use Rattle.rio_machine.specs.declared.command.Command.{Command, TheVariants.{Bad, Class, Put, Batch, Delete, Tree as MakeTree, Fill, Save, Get, Scan, Ls}}
 use Rattle.rio_machine.specs.declared.refusal.Refusal.{Refusal}
 use Rattle.rio_step.specs.{Laws.{LowestIsTold}}
 use Rattle.rio_model.specs.Mapping.{Mapped}
@@ -56,6 +56,7 @@ unfolding HasNumber
 line_numbered (Bad line place) r e = ap refusal_number (sym (same_Some _ r e))
 line_numbered (Class class) r e = absurd cc
 line_numbered (Put name v) r e = absurd cc
+line_numbered (Batch puts) r e = absurd cc
 line_numbered (Delete name cycle) r e = absurd cc
 line_numbered (MakeTree name branches) r e = absurd cc
 line_numbered (Fill name row) r e = absurd cc
@@ -86,6 +87,7 @@ kind_numbered m (Scan name class) = then_numbered 13 (λ t. change_in (rows_seen
 kind_numbered m (Bad line place) = none_numbered 13
 kind_numbered m (Class class) = none_numbered 13
 kind_numbered m (Put name v) = none_numbered 13
+kind_numbered m (Batch puts) = none_numbered 13
 kind_numbered m (Delete name cycle) = none_numbered 13
 kind_numbered m (MakeTree name branches) = none_numbered 13
 kind_numbered m (Fill name row) = none_numbered 13

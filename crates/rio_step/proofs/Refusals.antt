@@ -8,9 +8,10 @@ use Rattle.rio_value.specs.declared.value.Value.{Value, Null}
 use Rattle.rio_format.specs.Bodies.{member}
 use Rattle.rio_model.specs.Declaring.{reaches}
 use Rattle.rio_machine.specs.State.{NameAndCycle, State, Tree, item_order, next_cycle}
-use Rattle.rio_machine.specs.declared.command.Command.TheVariants.{Class, Put, Delete, Tree as MakeTree, Fill, Save}
+use Rattle.rio_machine.specs.declared.command.Command.TheVariants.{Class, Put, Batch, Delete, Tree as MakeTree, Fill, Save}
+use Rattle.rio_machine.specs.declared.command.PutItem.{PutItem}
 use Rattle.rio_machine.specs.declared.refusal.Refusal.TheVariants.{BadName, NoSuchName, NoSuchCycle, NameIsTree, NotATree, NameInUse, SameVersion, HoldsItself, BadRow, CycleLimit}
-use Rattle.rio_step.specs.Refusing.{refusal_of}
+use Rattle.rio_step.specs.Refusing.{items_put, refusal_of}
 
 -- ---- the state
 
@@ -31,6 +32,9 @@ some_state = record { classes = node_class ∷ []; objects = from_sorted objects
 
 -- ---- refusals
 
+abbrev null_put : List ℕ → PutItem
+null_put name = record { name = name; value = Null }
+
 class_list_name : refusal_of some_state (Put (codes "StreamerInfo") Null) None ≡ Some BadName
 unfolding refusal_of
 class_list_name = refl
@@ -46,6 +50,11 @@ no_such_cycle = rw (entries-from_sorted item_order objects tt, get-from_sorted i
 name_is_tree : refusal_of some_state (Put (codes "T") Null) None ≡ Some NameIsTree
 unfolding refusal_of
 name_is_tree = rw (get-from_sorted name_order trees (codes "T") tt) refl
+
+-- one of the puts of a batch is refused, and so is the batch
+batch_name_is_tree : refusal_of some_state (Batch (null_put (codes "a") ∷ null_put (codes "T") ∷ [])) None ≡ Some NameIsTree
+unfolding refusal_of
+batch_name_is_tree = rw (get-from_sorted name_order trees (codes "a") tt, get-from_sorted name_order trees (codes "T") tt) refl
 
 not_a_tree : refusal_of some_state (Fill (codes "s") []) None ≡ Some NotATree
 unfolding refusal_of
@@ -89,6 +98,10 @@ accepted_save = rw (entries-from_sorted item_order objects tt, get-from_sorted n
 
 next_cycle_there : next_cycle some_state (codes "s") ≡ 2
 next_cycle_there = rw (entries-from_sorted item_order objects tt) refl
+
+-- the cycles of a batch are counted within it
+batch_cycles : items_put some_state [] (null_put (codes "s") ∷ null_put (codes "t") ∷ null_put (codes "s") ∷ []) ≡ (codes "s", 2) ∷ (codes "t", 1) ∷ (codes "s", 3) ∷ []
+batch_cycles = rw (entries-from_sorted item_order objects tt) refl
 
 next_cycle_new : next_cycle some_state (codes "t") ≡ 1
 next_cycle_new = rw (entries-from_sorted item_order objects tt) refl

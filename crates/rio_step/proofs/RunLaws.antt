@@ -5,7 +5,7 @@ use Rattle.std.specs.List.{fold, last_or, slice_get}
 use Rattle.rio_machine.specs.{State.{State}, declared.command.Command.{Command}}
 use Rattle.rio_step.specs.{Laws.{EachSaysItsReply, RepliesSaySomething, RunsBeginAlike, RunsEndClosed, RunsHaveStates, SaidInParts}, ReplyText.{text_of}}
 use Rattle.rio_step.specs.Runs.{Marks, closed_of, closing_saves, first_step, later_marks, said_of, state_after, states_behind, states_of_run}
-use Rattle.rio_step.specs.Step.{class_declared, object_put, item_deleted, tree_made, row_added, rows_saved, object_told, rows_told, items_listed, refused, state_behind}
+use Rattle.rio_step.specs.Step.{class_declared, object_put, objects_put, item_deleted, tree_made, row_added, rows_saved, object_told, rows_told, items_listed, refused, state_behind}
 
 pub drop_later : (n : ℕ) (marks : Marks) → drop n (later_marks marks) ≡ drop (suc n) marks
 drop_later n marks = let e : 1 + n ≡ suc n = omega arith in drop-drop n 1 marks ∙ ap (λ k. drop k marks) e
@@ -73,6 +73,7 @@ pub replies_say_something : RepliesSaySomething
 unfolding text_of
 replies_say_something (class_declared name version) = omega arith
 replies_say_something (object_put name cycle) = omega arith
+replies_say_something (objects_put items) = omega arith
 replies_say_something (item_deleted name cycle) = omega arith
 replies_say_something (tree_made name cycle) = omega arith
 replies_say_something (row_added name entry) = omega arith

@@ -3,7 +3,7 @@ use Rattle.std.proofs.Common.{codes, Bool, ◌≡◌, ℕ, List, [], ◌∷◌, 
 use Rattle.rio_num.specs.At.{At}
 use Rattle.rio_token.specs.{declared.fault.TextFault.TheVariants.{BadText, NoMemory}, Reading.{Read}, Tokens.{behind, standing_in}}
 use Rattle.rio_model.specs.Lexemes.{Lexeme, Stand}
-use Rattle.rio_machine.specs.declared.command.Command.{Command, TheVariants.{Bad, Class, Put, Delete, Tree as MakeTree, Fill, Save, Get, Scan, Ls}}
+use Rattle.rio_machine.specs.declared.command.Command.{Command, TheVariants.{Bad, Class, Put, Batch, Delete, Tree as MakeTree, Fill, Save, Get, Scan, Ls}}
 use Rattle.rio_step.specs.CommandLaws.{IsBadLine, IsLine, IsSpelledLine, LinesAreSpelled, StandAlike}
 use Rattle.rio_step.specs.Script.{comes_next, command_at, line_command, or_bad_line}
 use Rattle.rio_step.proofs.{CommandAgain.{spelled_commands_are_read}, CommandTells.{command_places_are_told, read_commands_are_spelled}}
@@ -47,6 +47,7 @@ only_line : (number : ℕ) (line : List ℕ) (c : Command) → IsLine number lin
 only_line number line (Bad n place) d = bad_again number n line place d.0 d.1
 only_line number line (Class class) d = line_again number line (Class class) d
 only_line number line (Put name v) d = line_again number line (Put name v) d
+only_line number line (Batch puts) d = line_again number line (Batch puts) d
 only_line number line (Delete name cycle) d = line_again number line (Delete name cycle) d
 only_line number line (MakeTree name branches) d = line_again number line (MakeTree name branches) d
 only_line number line (Fill name row) d = line_again number line (Fill name row) d

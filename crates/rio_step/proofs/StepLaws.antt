@@ -7,7 +7,7 @@ use Rattle.rio_num.proofs.Cases.{none_from}
 use Rattle.rio_value.specs.{Depth.{greatest}, declared.value.Value.{Value}}
 use Rattle.rio_machine.proofs.OrderLaws.{items_tie, items_total}
 use Rattle.rio_machine.specs.State.{NameAndCycle, State, item_order, next_cycle}
-use Rattle.rio_machine.specs.declared.command.Command.{Command, TheVariants.{Bad, Class, Put, Delete, Tree as MakeTree, Fill, Save, Get, Scan, Ls}}
+use Rattle.rio_machine.specs.declared.command.Command.{Command, TheVariants.{Bad, Class, Put, Batch, Delete, Tree as MakeTree, Fill, Save, Get, Scan, Ls}}
 use Rattle.rio_machine.specs.declared.refusal.Refusal.{Refusal}
 use Rattle.rio_step.specs.{Laws.{HasOneMore, PutsAddOne, RefusedChangesNothing}, Refusing.{FullMark, refusal_of, put_value}}
 use Rattle.rio_step.specs.Step.{by_refusal, refused, reply_to, state_behind, step}
@@ -18,6 +18,7 @@ unrefused : (m : State) (c : Command) (refusal : Refusal) → reply_to m c ≡ r
 unrefused m (Bad line place) refusal e = refl
 unrefused m (Class class) refusal e = absurd cc
 unrefused m (Put name v) refusal e = absurd cc
+unrefused m (Batch puts) refusal e = absurd cc
 unrefused m (Delete name cycle) refusal e = absurd cc
 unrefused m (MakeTree name branches) refusal e = absurd cc
 unrefused m (Fill name row) refusal e = absurd cc

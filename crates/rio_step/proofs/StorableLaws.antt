@@ -2,7 +2,7 @@
 use Rattle.std.proofs.Common.{◌≡◌, ℕ, ◌+◌, List, [], ◌∷◌, ◌++◌, drop, length, Bool, true, false, cond, not, ◌&&◌, ◌||◌, Option, Some, None, refl, sym, ap, subst, ◌∙◌, append_assoc, arith}
 use Rattle.std.proofs.{lemmas.Bool.{and_from, and_parts, leb-false, ltb-false, not-false, or_parts}, lemmas.List.{append-nil}, lemmas.Map.Views.{tells_apart}}
 use Rattle.std.proofs.lemmas.Option.{same_Some}
-use Rattle.std.specs.{Prelude.{is_some, nat_le, unwrap_or}, FinMap.{get, get-empty, get-insert, get-remove, insert, remove}, List.{list_all, list_any}}
+use Rattle.std.specs.{Prelude.{is_some, nat_le, nat_lt, unwrap_or}, FinMap.{get, get-empty, get-insert, get-remove, insert, remove}, List.{list_all, list_any}}
 use Rattle.std.specs.{Option.{option_map_or}, Ordering.{eq_by_cmp}, Str.{bytes_eq}}
 use Rattle.rio_num.specs.Word.{is_item_text, name_order}
 use Rattle.rio_leaf.specs.{declared.branch.BranchDef.{BranchDef}, declared.branch.Shape.{Shape, TheVariants.{Leaves, Class as Objects}}}
@@ -13,15 +13,16 @@ use Rattle.rio_buffer.specs.ReaderState.{no_words}
 use Rattle.rio_format.specs.{Bodies.{Counters}, Fits.{Labels, fits, fitting_of}, Slots.{can_be_put}}
 use Rattle.rio_machine.specs.Limits.{data_length, has_long_entry, head_length, is_too_long, zeros_behind, cycle_limit, has_long_list, is_too_deep}
 use Rattle.rio_machine.specs.Rows.{Column, column_slot, columns_bytes, columns_fit, columns_of, entries_from, leaf_numbers_after, leaf_numbers_behind, row_fits, shape_columns, stands_in}
-use Rattle.rio_machine.specs.declared.command.Command.{Command, TheVariants.{Bad, Class, Put, Delete, Tree as MakeTree, Fill, Save, Get, Scan, Ls}}
+use Rattle.rio_machine.specs.declared.command.Command.{Command, TheVariants.{Bad, Class, Put, Batch, Delete, Tree as MakeTree, Fill, Save, Get, Scan, Ls}}
+use Rattle.rio_machine.specs.declared.command.PutItem.{PutItem}
 use Rattle.rio_machine.specs.declared.refusal.Refusal.{Refusal, TheVariants.{BadName, NoSuchClass, CycleLimit, TooLarge, TooDeep, TooMany}}
 use Rattle.rio_machine.specs.State.{NameAndCycle, Row, State, Tree, empty_state, item_order, names_tree, next_cycle}
 use Rattle.rio_model.specs.Declaring.{is_declared, declared, shape_lacks_class}
-use Rattle.rio_step.proofs.{ApartLaws.{names_stay_apart, none_at, not_refused}, DeclaredLaws.{classes_stay_declared}, FitLaws.{put_more}}
+use Rattle.rio_step.proofs.{ApartLaws.{names_stay_apart, none_at, not_refused}, BatchTaken.{batch_taken}, DeclaredLaws.{classes_stay_declared}, FitLaws.{put_more}}
 use Rattle.rio_step.proofs.{FitStays.{all_pushed, columns_more, object_more, unrefused_fit, unrefused_row}, WritingLaws.{slot_written, written_same}}
-use Rattle.rio_step.specs.Statable.{is_statable}
+use Rattle.rio_step.specs.{Laws.{AreTaken}, Statable.{is_statable}}
 use Rattle.rio_step.specs.Refusing.{FullMark, fill_row, goes_too_deep, has_too_many, is_at_last_cycle, is_list_name, is_too_large, lacks_class, put_value, refusal_of, refusals, object_class, rows_of_tree}
-use Rattle.rio_step.specs.Step.{by_refusal, new_tree, state_behind, step, tree_filled, tree_saved, with_tree, without_item}
+use Rattle.rio_step.specs.Step.{by_refusal, new_tree, state_behind, step, tree_filled, tree_saved, with_object, with_objects, with_tree, without_item}
 use Rattle.rio_step.specs.Storable.{IsStorable, IsStoredName, IsStoredObject, IsStoredTree, StaysStorable, is_stored_row}
 use Rattle.rio_machine.proofs.OrderLaws.{items_tie, items_total, names_tie, names_total}
 
@@ -266,10 +267,17 @@ rows_saved_in m name mark e h =
       },
     )) h
 
+batch_in : (puts : List PutItem) (m : State) → list_all (λ p. is_item_text p.name) puts ≡ true → AreTaken m puts → Holds m → Holds (with_objects m puts)
+batch_in [] m stated taken h = h
+batch_in (p ∷ ps) m stated taken h =
+    let parts = and_parts (is_item_text p.name) (list_all (λ q. is_item_text q.name) ps) stated in
+    batch_in ps (with_object m p.name p.value) parts.1 taken.1 (put_in m p.name p.value None parts.0 taken.0 h)
+
 behind_holds : (m : State) (c : Command) (mark : Option FullMark) → is_statable c ≡ true → refusal_of m c mark ≡ None → Holds m → Holds (state_behind m c)
 behind_holds m (Bad line place) mark stated e h = h
 behind_holds m (Class class) mark stated e h = class_in m (declared m.classes class) h
 behind_holds m (Put name v) mark stated e h = put_in m name v mark stated e h
+behind_holds m (Batch puts) mark stated e h = batch_in puts m (and_parts (nat_lt 0 (length puts)) (list_all (λ p. is_item_text p.name) puts) stated).1 (batch_taken m puts mark e) h
 behind_holds m (Delete name cycle) mark stated e h = item_out m name cycle h
 behind_holds m (MakeTree name branches) mark stated e h = tree_made_in m name branches mark stated e h
 behind_holds m (Fill name row) mark stated e h = row_in m name row mark e h

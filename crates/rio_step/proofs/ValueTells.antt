@@ -1,15 +1,18 @@
 -- Values and rows in a command: what is read, and the first tokens that can't stand.
-use Rattle.std.proofs.Common.{ℕ, suc, List, [], ◌∷◌, ◌++◌, Bool}
+use Rattle.std.proofs.Common.{ℕ, suc, List, [], ◌∷◌, ◌++◌, Bool, codes, refl, sym, subst}
 use Rattle.rio_num.specs.At.{At}
-use Rattle.rio_value.specs.declared.value.Value.{Value, out-Value}
-use Rattle.rio_value.specs.declared.value.Value.TheOpen as layer
+use Rattle.rio_value.specs.{declared.value.Value.{Value, Null, out-Value, TheOpen.{Value-F}, TheVariants.{outs-Null}}, declared.value.Part.{Part}}
 use Rattle.rio_token.specs.{declared.fault.TextFault.{TextFault}, Reading.{Read}}
-use Rattle.rio_model.specs.{Lexemes.{Lexeme, SpellsFurther}, ToldPlaces.{Begin}, ValueGrammar.{enclosed_at, value_in_text, values_at}}
-use Rattle.rio_model.specs.ValueSpelling.{SpellsRow, SpellsValue, SpellsWithin}
+use Rattle.rio_model.specs.{Lexemes.{Lexeme, SpellsFurther, word}, ToldPlaces.{Begin}, ValueGrammar.{enclosed_at, value_in_text, values_at}}
+use Rattle.rio_model.specs.ValueSpelling.{SpellsLayer, SpellsRow, SpellsValue, SpellsWithin}
 use Rattle.rio_model.proofs.{SpellingUp.{layer_up, within_up}, ValueAgain.{spelled_are_read}, ValueFound.{read_are_spelled}}
 use Rattle.rio_model.proofs.ValueTold.{places_are_told, value_ends_same}
 use Rattle.rio_step.specs.CommandLaws.{IsFirstBadToken}
 use Rattle.rio_step.proofs.AlikeLaws.{BeginBehind, Tells, alike_end, alike_stand, bad_alike, bad_there}
+
+pub null_spelled : (levels : ℕ) → SpellsValue levels Null (word (codes "null") ∷ [])
+unfolding SpellsValue
+null_spelled levels = subst (λ (y : Value-F Value Part). SpellsLayer (SpellsWithin levels) y (word (codes "null") ∷ [])) (sym outs-Null) refl
 
 pub value_up : (levels : ℕ) (v : Value) (ls : List Lexeme) → SpellsValue levels v ls → SpellsValue (suc levels) v ls
 unfolding SpellsValue

@@ -3,12 +3,13 @@
 use Rattle.std.specs.Prelude.{◌≡◌, ℕ, ◌-◌, ℤ, pos, List, [], ◌∷◌, ◌++◌, codes, Option, Some, None, true, not, ◌&&◌}
 use Rattle.rio_num.specs.Word.{is_item_text, is_name_text}
 use Rattle.rio_types.specs.declared.class.Base.{Base}
-use Rattle.rio_token.specs.{Marks.{closing_bracket, colon, equals_sign, number_sign, opening_bracket, semicolon, slash}, Words.{num_between_of, num_of}}
+use Rattle.rio_token.specs.{Marks.{closing_brace, closing_bracket, colon, equals_sign, number_sign, opening_brace, opening_bracket, semicolon, slash}, Words.{num_between_of, num_of}}
 use Rattle.rio_leaf.specs.{declared.branch.BranchDef.{BranchDef}, declared.branch.Shape.{Shape, TheVariants.{Leaves, Class as Objects}}}
 use Rattle.rio_leaf.specs.{declared.leaf.Dim.{Dim, TheVariants.{One, Fixed, Counted}}, declared.leaf.Leaf.{Leaf}}
 use Rattle.rio_leaf.specs.Stated.{all_leaves, has_branch, is_stated_leaf}
-use Rattle.rio_model.specs.{ClassSpelling.{SpellsDeclaration}, Lexemes.{Lexeme, glued, mark, word}, ValueSpelling.{SpellsRow, SpellsValue}}
-use Rattle.rio_machine.specs.declared.command.Command.{Command, TheVariants.{Bad, Class, Put, Delete, Tree as MakeTree, Fill, Save, Get, Scan, Ls}}
+use Rattle.rio_model.specs.{ClassSpelling.{SpellsDeclaration}, Lexemes.{Lexeme, SpellsItems, glued, mark, word}, ValueSpelling.{SpellsRow, SpellsValue, in_brackets}}
+use Rattle.rio_machine.specs.declared.command.Command.{Command, TheVariants.{Bad, Class, Put, Batch, Delete, Tree as MakeTree, Fill, Save, Get, Scan, Ls}}
+use Rattle.rio_machine.specs.declared.command.PutItem.{PutItem}
 
 -- ---- the branches of a tree
 
@@ -61,6 +62,16 @@ SpellsBranch before b ls =
 abbrev pub SpellsBehind : List ℕ → List ℕ → (List Lexeme → Type 0) → List Lexeme → Type 0
 SpellsBehind verb name Spells ls = (own : List Lexeme) × (ls ≡ word verb ∷ word name ∷ own) × (is_item_text name ≡ true) × Spells own
 
+-- NAME value, as a put of a batch has them
+abbrev pub SpellsPut : ℕ → PutItem → List Lexeme → Type 0
+SpellsPut levels p ls = (own : List Lexeme) × (ls ≡ word p.name ∷ own) × (is_item_text p.name ≡ true) × SpellsValue levels p.value own
+
+-- the puts of a batch in braces, at least one
+abbrev pub SpellsPuts : ℕ → List PutItem → List Lexeme → Type 0
+SpellsPuts levels [] ls = ⊥
+SpellsPuts levels (p ∷ ps) ls =
+    (inside : List Lexeme) × (ls ≡ in_brackets opening_brace inside closing_brace) × SpellsItems (λ before. SpellsPut levels) (p ∷ ps) inside
+
 abbrev pub SpellsCycle : ℕ → List Lexeme → Type 0
 SpellsCycle cycle ls = (digits : List ℕ) × (num_of digits ≡ Some cycle) × (ls ≡ mark semicolon ∷ word digits ∷ [])
 
@@ -92,6 +103,7 @@ abbrev pub SpellsCommand : ℕ → Command → List Lexeme → Type 0
 SpellsCommand levels (Bad line place) ls = ⊥
 SpellsCommand levels (Class class) ls = SpellsDeclaration class ls
 SpellsCommand levels (Put name value) ls = SpellsBehind (codes "put") name (SpellsValue levels value) ls
+SpellsCommand levels (Batch puts) ls = (own : List Lexeme) × (ls ≡ word (codes "batch") ∷ own) × SpellsPuts (levels - 1) puts own
 SpellsCommand levels (Delete name cycle) ls = SpellsBehind (codes "delete") name (SpellsCycle cycle) ls
 SpellsCommand levels (MakeTree name branches) ls = SpellsBehind (codes "tree") name (SpellsSome SpellsBranch branches) ls
 SpellsCommand levels (Fill name row) ls = SpellsBehind (codes "fill") name (SpellsRow (levels - 1) row) ls

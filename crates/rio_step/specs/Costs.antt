@@ -6,7 +6,7 @@ use Rattle.rio_value.specs.declared.value.Value.{Value}
 use Rattle.rio_format.specs.{Written.{written_form}, WrittenBytes.{written_list}}
 use Rattle.rio_machine.specs.{Rows.{entries_of}, State.{Row, State, Tree}}
 use Rattle.rio_tree.specs.HeaderLength.{header_size}
-use Rattle.rio_machine.specs.declared.command.Command.{Command, TheVariants.{Bad, Class, Put, Delete, Tree as MakeTree, Fill, Save, Get, Scan, Ls}}
+use Rattle.rio_machine.specs.declared.command.Command.{Command, TheVariants.{Bad, Class, Put, Batch, Delete, Tree as MakeTree, Fill, Save, Get, Scan, Ls}}
 use Rattle.rio_step.specs.{Refusing.{fill_row, put_value, refusal_of, rows_of_tree, with_class}, Runs.{Marks, first_step, later_marks}}
 
 -- ---- lengths
@@ -19,6 +19,9 @@ abbrev pub info_size : List ClassDef → ℕ
 info_size classes = length (written_list 0 classes)
 
 -- ---- commands
+
+abbrev pub put_cost : State → Value → ℕ
+put_cost m v = 500 + value_size m.classes (put_value m v)
 
 -- the entries of a row, twice, and where nothing was pending the basket of each branch
 abbrev pub fill_cost : State → Row → Tree → ℕ
@@ -33,7 +36,8 @@ save_cost name t = 240 + header_size name t.branches + 20 * length t.branches * 
 abbrev pub accepted_cost : State → Command → ℕ
 accepted_cost m (Bad line place) = 0
 accepted_cost m (Class class) = 100 + info_size (with_class m.classes class)
-accepted_cost m (Put name v) = 500 + value_size m.classes (put_value m v)
+accepted_cost m (Put name v) = put_cost m v
+accepted_cost m (Batch puts) = sum_by (λ p. put_cost m p.value) puts
 accepted_cost m (Delete name cycle) = 0
 accepted_cost m (MakeTree name branches) = 600 + info_size m.classes + 2 * header_size name branches
 accepted_cost m (Fill name row) = option_map_or (fill_cost m row) (get m.trees name) 0

@@ -5,10 +5,10 @@ use Rattle.rio_types.specs.declared.class.ClassDef.{ClassDef}
 use Rattle.rio_value.specs.declared.value.Value.{Value}
 use Rattle.rio_format.specs.{Fits.{fits}, Written.{written_form}}
 use Rattle.rio_machine.specs.{RefusalText.{refusal_number}, Rows.{row_fits}, State.{NameAndCycle, Row, State, Tree, names_object, names_tree, next_cycle}}
-use Rattle.rio_machine.specs.{declared.command.Command.{Command, TheVariants.{Put, Delete}}, declared.refusal.Refusal.{Refusal}}
-use Rattle.rio_step.specs.{Refusing.{FullMark, is_fit, refusal_of, refusals, put_value, rows_of_tree}, ReplyText.{text_of}}
+use Rattle.rio_machine.specs.{declared.command.Command.{Command, TheVariants.{Put, Batch, Delete}}, declared.command.PutItem.{PutItem}, declared.refusal.Refusal.{Refusal}}
+use Rattle.rio_step.specs.{Refusing.{FullMark, is_fit, items_put, refusal_of, refusals, put_value, rows_of_tree}, ReplyText.{text_of}}
 use Rattle.rio_step.specs.Runs.{Marks, closed_of, closing_saves, first_step, said_of, saved_of, saved_tree, state_after, states_of_run}
-use Rattle.rio_step.specs.Step.{Reply, refused, step}
+use Rattle.rio_step.specs.Step.{Reply, refused, step, with_object, with_objects}
 
 -- ---- refusals
 
@@ -94,6 +94,31 @@ is_delete other = false
 pub record NothingIsLost : Type 0 where
   pub objects : (m : State) (c : Command) (mark : Option FullMark) → is_delete c ≡ false → Keeps m.objects (step m c mark).state.objects
   pub rows : (m : State) (c : Command) (mark : Option FullMark) → is_delete c ≡ false → KeepsRows m (step m c mark).state
+
+-- ---- batches
+
+-- the items that puts give their objects, one put after the other
+abbrev pub items_along : State → List PutItem → List NameAndCycle
+items_along m [] = []
+items_along m (p ∷ ps) = (p.name, next_cycle m p.name) ∷ items_along (with_object m p.name p.value) ps
+
+-- the objects of a batch get the cycles that they would get one put after the other
+abbrev pub CyclesCountUp : Type 0
+CyclesCountUp = (m : State) (puts : List PutItem) → items_put m [] puts ≡ items_along m puts
+
+-- puts one after the other, none of which is refused
+abbrev pub AreTaken : State → List PutItem → Type 0
+AreTaken m [] = Unit {0}
+AreTaken m (p ∷ ps) = (refusal_of m (Put p.name p.value) None ≡ None) × AreTaken (with_object m p.name p.value) ps
+
+-- a batch that isn't refused leaves what its puts leave one after the other, none of which is refused
+pub record TakesAll (m n : State) (puts : List PutItem) : Type 0 where
+  pub state : n ≡ with_objects m puts
+  pub taken : AreTaken m puts
+
+abbrev pub BatchesTakeAll : Type 0
+BatchesTakeAll = (m : State) (puts : List PutItem) (mark : Option FullMark)
+    → refusal_of m (Batch puts) mark ≡ None → TakesAll m (step m (Batch puts) mark).state puts
 
 -- ---- one class more
 

@@ -1,15 +1,16 @@
 -- Why a command is refused: nineteen tests, in order. The first that holds is told.
-use Rattle.std.specs.Prelude.{ℕ, List, [], ◌∷◌, ◌++◌, length, codes, Bool, false, ◌==◌, ◌&&◌, ◌||◌, not, nat_lt, nat_le, Option, Some, None, is_some, unwrap_or, option_and_then, Ok, Err, ℤ, if◌then◌else◌}
-use Rattle.std.specs.{FinMap.{contains_key, get}, List.{list_any}, Option.{option_map, option_map_or, option_or}, Str.{bytes_eq}}
+use Rattle.std.specs.Prelude.{ℕ, List, [], ◌∷◌, ◌++◌, length, codes, Bool, false, ◌==◌, ◌+◌, ◌&&◌, ◌||◌, not, nat_lt, nat_le, Option, Some, None, is_some, unwrap_or, option_and_then, Ok, Err, ℤ, if◌then◌else◌}
+use Rattle.std.specs.{FinMap.{contains_key, get}, List.{filter, list_any}, Option.{option_map, option_map_or, option_or}, Str.{bytes_eq}}
 use Rattle.rio_num.specs.Reading.{◌>>=◌}
 use Rattle.rio_types.specs.{Classes.{find_in}, declared.class.Base.{Base}, declared.class.ClassDef.{ClassDef}}
 use Rattle.rio_value.specs.{declared.value.Value.{Value, out-Value, TheOpen.{Value-F, Object}}, declared.value.Part.{Part}}
 use Rattle.rio_format.specs.{Fits.{fits}, Slots.{can_be_put}, WrittenBytes.{written_list}}
 use Rattle.rio_model.specs.Declaring.{class_limit, declared, holds_itself, is_declared, is_reserved_name, knows_all, shape_lacks_class}
 use Rattle.rio_model.specs.Resolving.{is_known_version, resolved, resolved_row}
-use Rattle.rio_machine.specs.Limits.{cycle_limit, data_length, has_all_items, has_long_entry, has_long_list, has_many_branches, is_too_deep, is_too_long}
-use Rattle.rio_machine.specs.{Rows.{row_fits}, State.{Row, State, Tree, last_cycle, names_item, names_object, names_tree, next_cycle}}
-use Rattle.rio_machine.specs.declared.command.Command.{Command, TheVariants.{Bad, Class, Put, Delete, Tree as MakeTree, Fill, Save, Get, Scan}}
+use Rattle.rio_machine.specs.Limits.{batch_limit, cycle_limit, data_length, has_all_items, has_long_entry, has_long_list, has_many_branches, is_too_deep, is_too_long, lacks_items}
+use Rattle.rio_machine.specs.{Rows.{row_fits}, State.{NameAndCycle, Row, State, Tree, last_cycle, names_item, names_object, names_tree, next_cycle}}
+use Rattle.rio_machine.specs.declared.command.Command.{Command, TheVariants.{Bad, Class, Put, Batch, Delete, Tree as MakeTree, Fill, Save, Get, Scan}}
+use Rattle.rio_machine.specs.declared.command.PutItem.{PutItem}
 use Rattle.rio_machine.specs.declared.refusal.Refusal.{Refusal, TheVariants.{BadLine, BadName, NoSuchName, NoSuchCycle, NameIsTree, NotATree, NameInUse, NoSuchClass, SameVersion, HoldsItself, DoesNotFit, BadRow, KindChanged, NoVersion, CycleLimit, TooLarge, TooDeep, TooMany, Full}}
 use Rattle.rio_model.specs.{Mapping.{Mapped, as_version}, declared.map_fault.MapFault.TheVariants.{KindChanged as Changed}}
 
@@ -50,6 +51,21 @@ rows_of_tree t = t.saved ++ t.pending
 abbrev pub tree_passes : State → List ℕ → (Tree → Bool) → Bool
 tree_passes m name test = option_map_or test (get m.trees name) false
 
+-- ---- batches
+
+-- how many of these puts have the name
+abbrev pub times_put : List ℕ → List PutItem → ℕ
+times_put name puts = length (filter (λ p. bytes_eq p.name name) puts)
+
+-- the item that a put gives an object, behind these puts of its batch: their cycles of its name are counted
+abbrev pub item_put : State → List PutItem → PutItem → NameAndCycle
+item_put m before p = (p.name, next_cycle m p.name + times_put p.name before)
+
+-- the items that puts give their objects, behind these puts of their batch
+abbrev pub items_put : State → List PutItem → List PutItem → List NameAndCycle
+items_put m before [] = []
+items_put m before (p ∷ ps) = item_put m before p ∷ items_put m (before ++ p ∷ []) ps
+
 -- ---- names
 
 abbrev pub bad_line : Command → Option Refusal
@@ -63,6 +79,7 @@ is_list_name name = bytes_eq name (codes "StreamerInfo")
 abbrev pub has_bad_name : Command → Bool
 has_bad_name (Class class) = is_reserved_name class.name
 has_bad_name (Put name v) = is_list_name name
+has_bad_name (Batch puts) = list_any (λ p. is_list_name p.name) puts
 has_bad_name (MakeTree name branches) = is_list_name name
 has_bad_name other = false
 
@@ -95,6 +112,7 @@ lacks_cycle m c =
 -- an object is put or told under the name of a tree
 abbrev pub is_tree_name : State → Command → Bool
 is_tree_name m (Put name v) = names_tree m name
+is_tree_name m (Batch puts) = list_any (λ p. names_tree m p.name) puts
 is_tree_name m (Get name cycle version) = names_tree m name
 is_tree_name m other = false
 
@@ -115,10 +133,15 @@ is_name_in_use m other = false
 abbrev pub is_kept_out : List ClassDef → Value → Bool
 is_kept_out classes v = option_map_or (λ class. not (can_be_put classes class)) (object_class v) false
 
+-- a value to be put names a class that isn't known, or is of one that may not stand there
+abbrev pub value_lacks_class : State → Value → Bool
+value_lacks_class m v = not (is_some (resolved m.classes v)) || is_kept_out m.classes (put_value m v)
+
 -- a class is named that isn't known, or may not stand there; the class of a branch or of a scan is a declared one
 abbrev pub lacks_class : State → Command → Bool
 lacks_class m (Class class) = not (knows_all m.classes class)
-lacks_class m (Put name v) = not (is_some (resolved m.classes v)) || is_kept_out m.classes (put_value m v)
+lacks_class m (Put name v) = value_lacks_class m v
+lacks_class m (Batch puts) = list_any (λ p. value_lacks_class m p.value) puts
 lacks_class m (MakeTree name branches) = list_any (λ b. shape_lacks_class m.classes b.shape) branches
 lacks_class m (Fill name row) = not (is_some (resolved_row m.classes row))
 lacks_class m (Scan name class) = option_map_or (λ asked. not (is_declared m.classes asked.name)) class false
@@ -140,6 +163,7 @@ is_fit classes v = option_map_or (λ class. fits classes class v) (object_class 
 
 abbrev pub is_unfit : State → Command → Bool
 is_unfit m (Put name v) = not (is_fit m.classes (put_value m v))
+is_unfit m (Batch puts) = list_any (λ p. not (is_fit m.classes (put_value m p.value))) puts
 is_unfit m other = false
 
 abbrev pub is_bad_row : State → Command → Bool
@@ -191,6 +215,7 @@ lacks_version m other = false
 
 abbrev pub is_at_last_cycle : State → Command → Bool
 is_at_last_cycle m (Put name v) = nat_lt cycle_limit (next_cycle m name)
+is_at_last_cycle m (Batch puts) = list_any (λ item. nat_lt cycle_limit item.1) (items_put m [] puts)
 is_at_last_cycle m (Fill name row) = tree_passes m name (λ t. nat_le cycle_limit t.cycle)
 is_at_last_cycle m (Save name) = tree_passes m name (λ t. nat_le cycle_limit t.cycle)
 is_at_last_cycle m other = false
@@ -206,17 +231,20 @@ with_class classes class = classes ++ declared classes class ∷ []
 abbrev pub is_too_large : State → Command → Bool
 is_too_large m (Class class) = is_too_long (length (written_list 0 (with_class m.classes class)))
 is_too_large m (Put name v) = is_too_long (object_length m.classes name (put_value m v))
+is_too_large m (Batch puts) = list_any (λ p. is_too_long (object_length m.classes p.name (put_value m p.value))) puts
 is_too_large m (Fill name row) = tree_passes m name (λ t. has_long_entry m.classes t.branches (fill_row m row))
 is_too_large m other = false
 
 abbrev pub goes_too_deep : State → Command → Bool
 goes_too_deep m (Put name v) = is_too_deep (put_value m v)
+goes_too_deep m (Batch puts) = list_any (λ p. is_too_deep (put_value m p.value)) puts
 goes_too_deep m (Fill name row) = list_any is_too_deep (fill_row m row)
 goes_too_deep m other = false
 
 abbrev pub has_too_many : State → Command → Bool
 has_too_many m (Class class) = nat_le class_limit (length m.classes)
 has_too_many m (Put name v) = has_long_list (put_value m v) || has_all_items m
+has_too_many m (Batch puts) = (nat_lt batch_limit (length puts) || lacks_items m (length puts)) || list_any (λ p. has_long_list (put_value m p.value)) puts
 has_too_many m (MakeTree name branches) = has_all_items m || has_many_branches branches
 has_too_many m (Fill name row) = list_any has_long_list (fill_row m row)
 has_too_many m other = false

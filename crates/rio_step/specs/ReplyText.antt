@@ -4,7 +4,7 @@ use Rattle.rio_num.specs.Printed.{item_text, name_text, numbered}
 use Rattle.rio_value.specs.declared.value.Value as value
 use Rattle.rio_model.specs.ValueText.{text_of_value}
 use Rattle.rio_machine.specs.{RefusalText.{refusal_text}, State.{NameAndCycle, Row}}
-use Rattle.rio_step.specs.Step.{Listed, object_listed, tree_listed, Reply, class_declared, object_put, item_deleted, tree_made, row_added, rows_saved, object_told, rows_told, items_listed, refused}
+use Rattle.rio_step.specs.Step.{Listed, object_listed, tree_listed, Reply, class_declared, object_put, objects_put, item_deleted, tree_made, row_added, rows_saved, object_told, rows_told, items_listed, refused}
 
 -- a row, as a list
 abbrev pub row_text : Row → List ℕ
@@ -26,6 +26,7 @@ item_lines items = flat_map (λ e. item_text e.0.0 e.0.1 ++ codes " " ++ listed_
 unfoldable pub text_of : Reply → List ℕ
 text_of (class_declared name version) = codes "ok class " ++ name_text name ++ codes " " ++ signed_decimal version ++ codes "\n"
 text_of (object_put name cycle) = codes "ok put " ++ item_text name cycle ++ codes "\n"
+text_of (objects_put items) = codes "ok batch" ++ flat_map (λ item. codes " " ++ item_text item.0 item.1) items ++ codes "\n"
 text_of (item_deleted name cycle) = codes "ok delete " ++ item_text name cycle ++ codes "\n"
 text_of (tree_made name cycle) = codes "ok tree " ++ item_text name cycle ++ codes "\n"
 text_of (row_added name entry) = codes "ok fill " ++ name_text name ++ numbered entry ++ codes "\n"

@@ -1,13 +1,14 @@
 -- Scripts as texts are read: a command for each line that counts, a bad line with the place of the first token that can't
 -- stand.
-use Rattle.std.specs.Prelude.{◌≡◌, ℕ, ◌+◌, ℤ, pos, List, [], ◌∷◌, length, codes, Option, Some, None, Ok, Err, Bool, false, not, ◌==◌, if◌then◌else◌}
+use Rattle.std.specs.Prelude.{◌≡◌, ℕ, ◌+◌, ℤ, pos, List, [], ◌∷◌, length, codes, ◌-◌, Option, Some, None, Ok, Err, Bool, false, not, ◌==◌, if◌then◌else◌}
 use Rattle.std.specs.{List.{filter}, Option.{option_map_or}, Str.{bytes_eq, Lines.{lines}}}
 use Rattle.rio_num.specs.{At.{At}, Reading.{◌>>=◌}}
-use Rattle.rio_token.specs.{declared.fault.TextFault.TheVariants.{BadText, NoMemory}, Marks.{number_sign, semicolon}}
-use Rattle.rio_token.specs.{Reading.{Read, bad_at, end_at, item_at, mark_at, marked, name_at, next_word, num_at, version_at}, Tokens.{behind, standing_in}}
+use Rattle.rio_token.specs.{declared.fault.TextFault.TheVariants.{BadText, NoMemory}, Marks.{closing_brace, number_sign, opening_brace, semicolon}}
+use Rattle.rio_token.specs.{Reading.{Read, bad_at, end_at, item_at, mark_at, marked, name_at, next_word, num_at, some_at, version_at}, Tokens.{behind, standing_in}}
 use Rattle.rio_types.specs.declared.class.Base.{Base}
 use Rattle.rio_model.specs.{ClassGrammar.{class_at}, ValueGrammar.{bracket_limit, enclosed_at, row_at, value_in_text}}
-use Rattle.rio_machine.specs.declared.command.Command.{Command, TheVariants.{Bad, Class, Put, Delete, Tree as MakeTree, Fill, Save, Get, Scan, Ls}}
+use Rattle.rio_machine.specs.declared.command.Command.{Command, TheVariants.{Bad, Class, Put, Batch, Delete, Tree as MakeTree, Fill, Save, Get, Scan, Ls}}
+use Rattle.rio_machine.specs.declared.command.PutItem.{PutItem}
 use Rattle.rio_step.specs.TreeGrammar.{branches_at}
 
 -- ---- commands, behind their first word
@@ -24,6 +25,20 @@ put_command_at s = do
   name ← item_at s
   value ← value_in_text (enclosed_at bracket_limit) name.1
   Ok (Put name.0 value.0, value.1)
+
+-- one put of a batch, whose braces count among the brackets that stand within one another
+unfoldable pub batch_put_at : At → Read PutItem
+batch_put_at s = do
+  name ← item_at s
+  value ← value_in_text (enclosed_at (bracket_limit - 1)) name.1
+  Ok (record { name = name.0; value = value.0 }, value.1)
+
+-- the puts of a batch in braces, at least one
+unfoldable pub batch_command_at : At → Read Command
+batch_command_at s = do
+  opening ← mark_at opening_brace s
+  puts ← some_at closing_brace (λ before. batch_put_at) opening.1
+  Ok (Batch puts.0, puts.1)
 
 unfoldable pub delete_command_at : At → Read Command
 delete_command_at s = do
@@ -104,6 +119,7 @@ unfoldable pub command_at : At → Read Command
 command_at s =
     if comes_next (codes "class") s then class_command_at s
     else if comes_next (codes "put") s then ended_at (put_command_at (behind s))
+    else if comes_next (codes "batch") s then ended_at (batch_command_at (behind s))
     else if comes_next (codes "delete") s then ended_at (delete_command_at (behind s))
     else if comes_next (codes "tree") s then ended_at (tree_command_at (behind s))
     else if comes_next (codes "fill") s then ended_at (fill_command_at (behind s))

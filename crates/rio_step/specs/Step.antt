@@ -5,12 +5,22 @@ use Rattle.rio_leaf.specs.declared.branch.BranchDef.{BranchDef}
 use Rattle.rio_types.specs.declared.class.Base.{Base}
 use Rattle.rio_value.specs.declared.value.Value.{Value, Null}
 use Rattle.rio_machine.specs.State.{NameAndCycle, Row, State, Tree, item_order, names_tree, next_cycle}
-use Rattle.rio_machine.specs.declared.command.Command.{Command, TheVariants.{Bad, Class, Put, Delete, Tree as MakeTree, Fill, Save, Get, Scan, Ls}}
+use Rattle.rio_machine.specs.declared.command.Command.{Command, TheVariants.{Bad, Class, Put, Batch, Delete, Tree as MakeTree, Fill, Save, Get, Scan, Ls}}
+use Rattle.rio_machine.specs.declared.command.PutItem.{PutItem}
 use Rattle.rio_machine.specs.{declared.command.Outcome.{Outcome, TheVariants.{Accepted, Refused}}, declared.refusal.Refusal.{Refusal, TheVariants.{BadLine}}}
 use Rattle.rio_model.specs.Mapping.{Mapped}
-use Rattle.rio_step.specs.Refusing.{FullMark, meant_cycle, meant_object, object_class, refusal_of, rows_of_tree, rows_seen_in, seen_in, fill_row, put_value, with_class}
+use Rattle.rio_step.specs.Refusing.{FullMark, items_put, meant_cycle, meant_object, object_class, refusal_of, rows_of_tree, rows_seen_in, seen_in, fill_row, put_value, with_class}
 
 -- ---- states
+
+-- the state with an object more, in the next cycle of its name
+abbrev pub with_object : State → List ℕ → Value → State
+with_object m name v = record m { objects = insert m.objects (name, next_cycle m name) (put_value m v) }
+
+-- the state with the objects of a batch, one put behind the other
+abbrev pub with_objects : State → List PutItem → State
+with_objects m [] = m
+with_objects m (p ∷ ps) = with_objects (with_object m p.name p.value) ps
 
 -- the state with a changed tree, if there is one of the name
 abbrev pub with_tree : State → List ℕ → (Tree → Tree) → State
@@ -35,7 +45,8 @@ without_item m name cycle =
 abbrev pub state_behind : State → Command → State
 state_behind m (Bad line place) = m
 state_behind m (Class class) = record m { classes = with_class m.classes class }
-state_behind m (Put name v) = record m { objects = insert m.objects (name, next_cycle m name) (put_value m v) }
+state_behind m (Put name v) = with_object m name v
+state_behind m (Batch puts) = with_objects m puts
 state_behind m (Delete name cycle) = without_item m name cycle
 state_behind m (MakeTree name branches) = record m { trees = insert m.trees name (new_tree branches) }
 state_behind m (Fill name row) = with_tree m name (tree_filled (fill_row m row))
@@ -57,6 +68,8 @@ pub data Reply : Type 0 where
   -- the name and cycle of an object, of what is deleted, and of a tree
   object_put : List ℕ → ℕ → Reply
   item_deleted : List ℕ → ℕ → Reply
+  -- the names and cycles of the objects of a batch
+  objects_put : List NameAndCycle → Reply
   tree_made : List ℕ → ℕ → Reply
   -- the tree and the number of the entry, counted from 0
   row_added : List ℕ → ℕ → Reply
@@ -106,6 +119,7 @@ abbrev pub reply_to : State → Command → Reply
 reply_to m (Bad line place) = refused (BadLine line place)
 reply_to m (Class class) = class_declared class.name class.version
 reply_to m (Put name v) = object_put name (next_cycle m name)
+reply_to m (Batch puts) = objects_put (items_put m [] puts)
 reply_to m (Delete name cycle) = item_deleted name cycle
 reply_to m (MakeTree name branches) = tree_made name 1
 reply_to m (Fill name row) = row_reply name (unwrap_or (get m.trees name) no_tree)

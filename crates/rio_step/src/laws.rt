@@ -1,5 +1,5 @@
 //! Laws of steps and of runs.
-ghost use Rattle.rio_step.specs.Laws.{AllStayFit, ClosedHasNonePending, DeletesTakeOne, EachSaysItsReply, FitsStay, LowestIsTold, NamesStayApart, NothingIsLost, PutsAddOne, RefusedChangesNothing, RepliesSaySomething, RunsBeginAlike, RunsEndClosed, RunsHaveStates, SaidInParts, SavedKeepsTheRest, WrittenStays};
+ghost use Rattle.rio_step.specs.Laws.{AllStayFit, BatchesTakeAll, ClosedHasNonePending, CyclesCountUp, DeletesTakeOne, EachSaysItsReply, FitsStay, LowestIsTold, NamesStayApart, NothingIsLost, PutsAddOne, RefusedChangesNothing, RepliesSaySomething, RunsBeginAlike, RunsEndClosed, RunsHaveStates, SaidInParts, SavedKeepsTheRest, WrittenStays};
 ghost use Rattle.rio_step.specs.Script.{LinesGiveCommands};
 ghost use Rattle.rio_step.specs.Storable.{StaysFillable, StaysStorable};
 ghost use Rattle.rio_step.specs.Statable.{ClassesStayDeclared, ScriptsAreStatable};
@@ -15,6 +15,13 @@ pub fn steps_change_one_thing()
     ensures refused { RefusedChangesNothing }
     ensures put { PutsAddOne }
     ensures delete { DeletesTakeOne }
+{}
+
+/// A batch that isn't refused leaves what its puts leave one after the other, none of which is refused. So its objects get
+/// the cycles that they would get one put after the other: those of the name that are put before are counted.
+pub fn batches_are_puts()
+    ensures cycles { CyclesCountUp }
+    ensures all { BatchesTakeAll }
 {}
 
 /// No command but a delete takes an object or a row away, or changes one.

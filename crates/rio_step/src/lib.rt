@@ -1,7 +1,7 @@
 //! What commands do: definitions that contracts cite, in `specs/`, and laws about them.
 //!
 //! `Refusing` has the first rule that refuses a command, `Step` the state behind it and its reply, `ReplyText` what is said
-//! of it, `Runs` the states and the texts of a run. Of these the main laws are `steps_change_one_thing`,
+//! of it, `Runs` the states and the texts of a run. Of these the main laws are `steps_change_one_thing`, `batches_are_puts`,
 //! `nothing_is_lost`, `all_stay_fit` and `stays_storable`.
 //!
 //! `Script` says how a script is read, line by line, with `TreeGrammar` for trees, and `CommandSpelling` which tokens spell
@@ -17,7 +17,7 @@ pub use command_laws::{
     read_commands_are_spelled, spelled_commands_are_read,
 };
 pub use laws::{
-    all_stay_fit, classes_stay_declared, each_says_its_reply, lowest_is_told, names_stay_apart,
-    nothing_is_lost, runs_end_closed, runs_have_states, scripts_are_statable, stays_fillable,
-    stays_storable, steps_change_one_thing, values_stay,
+    all_stay_fit, batches_are_puts, classes_stay_declared, each_says_its_reply, lowest_is_told,
+    names_stay_apart, nothing_is_lost, runs_end_closed, runs_have_states, scripts_are_statable,
+    stays_fillable, stays_storable, steps_change_one_thing, values_stay,
 };

@@ -3,7 +3,7 @@
 //!
 //! Up to 1,024 brackets are read within one another, by calls within one another. So these calls keep little: what is made of
 //! a value that was read is made in calls of their own, which are left before the next value is read.
-ghost use Rattle.std.specs.Prelude.{◌≡◌, ◌<◌, ◌^◌, ◌++◌, [], ◌∷◌, length, IfErr, IfOk, OnOk, Ok, if◌then◌else◌};
+ghost use Rattle.std.specs.Prelude.{◌≡◌, ◌<◌, ◌^◌, ◌-◌, ◌++◌, [], ◌∷◌, length, IfErr, IfOk, OnOk, Ok, if◌then◌else◌};
 ghost use Rattle.rio_format.specs.Bodies.{part};
 ghost use Rattle.rio_num.specs.Answers.{FailsUnless};
 ghost use Rattle.rio_num.specs.At.{At};
@@ -44,6 +44,19 @@ pub fn take_value(alloc: Global, tokens: &mut Tokens) -> Result<Value, TextFault
 {
     let mut ahead = tokens.copy();
     let value = read_next(alloc, &mut ahead, BRACKET_LIMIT)?;
+    *tokens = ahead;
+    Ok(value)
+}
+
+/// The value that the next tokens spell within brackets, which count among those that may stand within one
+/// another. `BadText` names the first token that can't stand in a value. A refused call leaves the tokens as
+/// they were.
+pub fn take_inner_value(alloc: Global, tokens: &mut Tokens) -> Result<Value, TextFault>
+    ensures { TakesInMemory (λ v. v) result
+        (value_in_text (enclosed_at (bracket_limit - 1)) tokens.old) tokens.old tokens.new }
+{
+    let mut ahead = tokens.copy();
+    let value = read_next(alloc, &mut ahead, BRACKET_LIMIT - 1)?;
     *tokens = ahead;
     Ok(value)
 }

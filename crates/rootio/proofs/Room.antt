@@ -5,7 +5,7 @@ use Rattle.rio_host.specs.Host.{View}
 use Rattle.rio_machine.specs.{State.{State}, declared.command.Command.{Command, TheVariants.{Ls}}, declared.command.Outcome.{Outcome}}
 use Rattle.rio_machine.specs.declared.refusal.Refusal.TheVariants.{Full}
 use Rattle.rio_step.specs.{Costs.{HasFileRoom, cost_of, costs_of_run, room_limit}, Runs.{Marks, first_step, later_marks, state_after}}
-use Rattle.rio_step.specs.Step.{Reply, class_declared, object_put, item_deleted, tree_made, row_added, rows_saved, object_told, rows_told, items_listed, refused, outcome_of}
+use Rattle.rio_step.specs.Step.{Reply, class_declared, object_put, objects_put, item_deleted, tree_made, row_added, rows_saved, object_told, rows_told, items_listed, refused, outcome_of}
 use Rattle.rio_session.specs.{Behind.{SaysPart}, Causes.{IsSaid, SaysNothing}, Replying.{reply_text}, Session.{LacksRoomIfFull, SessionState, with_cost}}
 use Rattle.rio_session.specs.declared.fault.SessionFault.{SessionFault, TheVariants.{HostFault, SayFault, NoMemory}}
 use Rattle.rootio.specs.Headline.{AllFindRoom, IsWantOfRoom, SaidFindRoom, ScriptRun, replies, reply_at}
@@ -41,6 +41,7 @@ lacking : (s : SessionState) (reply : Reply) → LacksRoomIfFull s (outcome_of r
 lacking s (class_declared name version) told want = absurd want
 lacking s (object_put name cycle) told want = absurd want
 lacking s (item_deleted name cycle) told want = absurd want
+lacking s (objects_put items) told want = absurd want
 lacking s (tree_made name cycle) told want = absurd want
 lacking s (row_added name entry) told want = absurd want
 lacking s (rows_saved name cycle entries) told want = absurd want

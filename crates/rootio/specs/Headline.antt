@@ -1,8 +1,8 @@
 -- The headline: wherever a run of a script is stopped, between or within writes, the file that is left reads, by the walk over
 -- its keys, as the classes, objects and saved entries after a prefix of the script's commands and closing saves, one that holds
--- every declaration, put, delete and save whose reply had been said; a run that ends well says exactly the model's replies and
--- leaves the whole script's state. The commands may also be those of an import. A generated file is made by such a run too, whose
--- replies aren't said.
+-- every declaration, put, batch, tree, delete and save whose reply had been said; a run that ends well says exactly the model's replies
+-- and leaves the whole script's state. A batch is one command: its objects are all in the file that is left, or none is. The
+-- commands may also be those of an import. A generated file is made by such a run too, whose replies aren't said.
 use Rattle.std.specs.Prelude.{◌≡◌, ◌<◌, ◌≤◌, ℕ, ◌+◌, List, ◌++◌, length, take, drop, slice_get, Some}
 use Rattle.rio_host.specs.Host.{IsQuiet, Leaves, View}
 use Rattle.rio_machine.specs.{State.{State}, declared.command.Command.{Command}, declared.refusal.Refusal.TheVariants.{Full}}

@@ -137,7 +137,7 @@ fn is_listing(listings: &[&[u8]], at: usize, said: &[u8]) -> bool {
 }
 
 // The number of the listing that is printed of a crash image: this one, or the next.
-fn listing_of(
+pub(super) fn listing_of(
     alloc: Global,
     image: &Bytes,
     listings: &[&[u8]],

@@ -240,7 +240,7 @@ fn has_what_was_said(host: &MemHost) -> bool {
     (first || said == 0) && (second || said <= 11)
 }
 
-fn failing_host(alloc: Global, call: u64) -> Result<MemHost, NoMemory> {
+pub(super) fn failing_host(alloc: Global, call: u64) -> Result<MemHost, NoMemory> {
     let failing = Numbers::from_slice(alloc, &[call])?;
     Ok(MemHost::new(alloc, Bytes::new(alloc), failing))
 }

@@ -229,7 +229,7 @@ fn found_of_item(work: &Work) -> Found {
     match work {
         Work::Put(object) => Found::Object(object.cycle),
         Work::Delete(head) | Work::Get { head, .. } => Found::Object(head.cycle),
-        Work::Class(_) | Work::Ls => Found::Refused(0),
+        Work::Class(_) | Work::Batch(_) | Work::Ls => Found::Refused(0),
     }
 }
 

@@ -91,6 +91,37 @@ fn keeps_the_greatest_cycle_first(rt: HostRuntime) {
     assert!(rt; is_kept(rt.alloc()));
 }
 
+// Puts two keys, for which there is room together.
+fn put_both(table: &mut KeyTable, first: KeyHead, second: KeyHead) -> Result<(), NoMemory> {
+    table.reserve(2)?;
+    if table
+        .find(first.name.as_slice(), Some(first.cycle))
+        .is_none()
+    {
+        table.insert(first);
+        if table
+            .find(second.name.as_slice(), Some(second.cycle))
+            .is_none()
+        {
+            table.insert(second);
+        }
+    }
+    Ok(())
+}
+
+fn keeps_both(alloc: Global) -> Result<bool, NoMemory> {
+    let mut table = KeyTable::new(alloc);
+    let first = key(alloc, 1)?;
+    let second = key(alloc, 2)?;
+    put_both(&mut table, first, second)?;
+    Ok(has_second_first(&table))
+}
+
+#[test]
+fn puts_two_keys_in_room_that_was_made_at_once(rt: HostRuntime) {
+    assert!(rt; matches!(keeps_both(rt.alloc()), Ok(true)));
+}
+
 fn writes_none(alloc: Global) -> bool {
     let mut bytes = Bytes::new(alloc);
     let table = KeyTable::new(alloc);

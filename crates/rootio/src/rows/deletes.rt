@@ -162,7 +162,14 @@ const FIVE: [Line; 5] = [
     Put("e;1", 60),
 ];
 
-static ROWS: [Row; 13] = [
+// Two records of 60 bytes.
+const BATCH: Line = Said(
+    "batch { f TObjString{TObject{fUniqueID: 0, fBits: 0}, fString: \"hi\"}, \
+    f TObjString{TObject{fUniqueID: 0, fBits: 0}, fString: \"ho\"} }",
+    "ok batch f;1 f;2",
+);
+
+static ROWS: [Row; 16] = [
     Row {
         first: &GAPS,
         then: &[],
@@ -212,6 +219,35 @@ static ROWS: [Row; 13] = [
         first: &FIVE,
         then: &[Delete("b;1"), Delete("d;1"), Delete("c;1"), Delete("e;1")],
         words: &[(208, 60), (268, 0)],
+    },
+    // A batch goes into one gap for all its records, or to END.
+    Row {
+        first: &FIVE,
+        then: &[Delete("b;1"), Delete("d;1"), Delete("c;1"), BATCH],
+        words: &[
+            (208, 60),
+            (268, 60),
+            (328, 60),
+            (388, 0xFFFFFFC4),
+            (448, 60),
+            (508, 0),
+        ],
+    },
+    Row {
+        first: &GAPS,
+        then: &[BATCH],
+        words: &[
+            (268, 0xFFFFFF9C),
+            (428, 0xFFFFFF98),
+            (592, 60),
+            (652, 60),
+            (712, 0),
+        ],
+    },
+    Row {
+        first: &[],
+        then: &[BATCH],
+        words: &[(208, 60), (268, 60), (328, 0)],
     },
     // The greatest cycle of a name is free again, a lower one isn't.
     Row {

@@ -1,99 +1,33 @@
-use Rattle.std.proofs.{Common.{◌≡◌, ℕ, List, None, is_some, sym, subst}, lemmas.Result.{err_from_is_err_and}}
-use Rattle.rio_step.specs.Refusing.{first_of}
-use Rattle.rio_judge.specs.{Stops.{StopsAt}, Judging.{CanBeStored}, declared.work.StoredObject.{StoredObject}}
-use Rattle.rio_num.proofs.Cases.{none_from}
-use Rattle.rio_machine.specs.declared.refusal.Refusal.TheVariants.{NameIsTree}
+use Rattle.std.proofs.{Common.{◌≡◌, None}, lemmas.Result.{err_from_is_err_and}}
 use Rattle.rio_tree_table.specs.Table.{tree_of}
-use Rattle.rio_judge.proofs.PutTests.{own_length_tests, stopped, stops_at_class, stops_at_counts, stops_at_cycle, stops_at_fit, stops_at_length, stops_at_name, stops_at_tree}
-use Rattle.rio_judge.proofs.{TestsInOrder.{passes_one}, PutLaws.{Passed, can_be_stored, put_answers}, put.put_work.Goals.{In_ok-name}}
+use Rattle.rio_judge.proofs.{PutLaws.{can_be_stored, put_goes, stopped_by_items, stopped_by_object}, PutTests.{no_tree_named}}
+use Rattle.rio_judge.proofs.put.put_work.Goals.{In_ok-check_items}
 use Rattle.rio_judge.proofs.put.put_work.Goals as goal
 
-pub returns-in_err-check_name-clause-answers : goal.returns-in_err-check_name-clause-answers
-returns-in_err-check_name-clause-answers c =
+pub returns-in_err-object-clause-answers : goal.returns-in_err-object-clause-answers
+returns-in_err-object-clause-answers c =
     let p = err_from_is_err_and c.from_residual.result c.from_residual.ensures.1 in
-    let stop = c.in_err-check_name.field-0.0 in
-    stopped c.args.classes.now c.args.table.now.heads c.args.trees.now.trees c.args.name.now c.args.value.now c.from_residual.result p.0 stop p.1 p.2
-    (stops_at_name c.args.classes.now c.args.table.now.heads c.args.trees.now.trees c.args.name.now c.args.value.now stop c.in_err-check_name.ensures)
+    stopped_by_object c.args.classes.now c.args.table.now.heads c.args.trees.now.trees c.args.name.now c.args.value.now c.from_residual.result p.0 c.in_err-object.field-0.0 p.1 p.2
+    c.in_err-object.ensures.told
 
-pub returns-in_err-check_no_tree-clause-answers : goal.returns-in_err-check_no_tree-clause-answers
-returns-in_err-check_no_tree-clause-answers c =
-    let p = err_from_is_err_and c.from_residual-in_err-check_no_tree.result c.from_residual-in_err-check_no_tree.ensures.1 in
-    let stop = c.in_err-check_no_tree.field-0.0 in
-    stopped c.args.classes.now c.args.table.now.heads c.args.trees.now.trees c.args.name.now c.args.value.now c.from_residual-in_err-check_no_tree.result p.0 stop p.1 p.2
-    (stops_at_tree c.args.classes.now c.args.table.now.heads c.args.trees.now.trees c.args.name.now c.args.value.now stop c.in_ok-check_name.ensures c.in_err-check_no_tree.ensures)
-
-pub returns-in_err-value-clause-answers : goal.returns-in_err-value-clause-answers
-returns-in_err-value-clause-answers c =
-    let p = err_from_is_err_and c.from_residual-in_err-value.result c.from_residual-in_err-value.ensures.1 in
-    let stop = c.in_err-value.field-0.0 in
-    stopped c.args.classes.now c.args.table.now.heads c.args.trees.now.trees c.args.name.now c.args.value.now c.from_residual-in_err-value.result p.0 stop p.1 p.2
-    (stops_at_class c.args.classes.now c.args.table.now.heads c.args.trees.now.trees c.args.name.now c.args.value.now stop c.in_ok-check_name.ensures c.in_ok-check_no_tree.ensures c.in_err-value.ensures.told)
-
-pub returns-in_err-class-clause-answers : goal.returns-in_err-class-clause-answers
-returns-in_err-class-clause-answers c =
-    let p = err_from_is_err_and c.from_residual-in_err-class.result c.from_residual-in_err-class.ensures.1 in
-    let stop = c.in_err-class.field-0.0 in
-    stopped c.args.classes.now c.args.table.now.heads c.args.trees.now.trees c.args.name.now c.args.value.now c.from_residual-in_err-class.result p.0 stop p.1 p.2
-    (stops_at_fit c.args.classes.now c.args.table.now.heads c.args.trees.now.trees c.args.name.now c.args.value.now stop c.in_ok-check_name.ensures c.in_ok-check_no_tree.ensures c.in_ok-value.value c.in_ok-value.ensures.value c.in_err-class.ensures.told)
-
-pub returns-in_err-cycle-clause-answers : goal.returns-in_err-cycle-clause-answers
-returns-in_err-cycle-clause-answers c =
-    let p = err_from_is_err_and c.from_residual-in_err-cycle.result c.from_residual-in_err-cycle.ensures.1 in
-    let stop = c.in_err-cycle.field-0.0 in
-    stopped c.args.classes.now c.args.table.now.heads c.args.trees.now.trees c.args.name.now c.args.value.now c.from_residual-in_err-cycle.result p.0 stop p.1 p.2
-    (stops_at_cycle c.args.classes.now c.args.table.now.heads c.args.trees.now.trees c.args.name.now c.args.value.now stop c.in_ok-check_name.ensures c.in_ok-check_no_tree.ensures c.in_ok-value.value c.in_ok-value.ensures.value c.in_ok-class.ensures.told c.in_err-cycle.ensures.told)
-
-pub returns-in_err-length-clause-answers : goal.returns-in_err-length-clause-answers
-returns-in_err-length-clause-answers c =
-    let p = err_from_is_err_and c.from_residual-in_err-length.result c.from_residual-in_err-length.ensures.1 in
-    let stop = c.in_err-length.field-0.0 in
-    let told : StopsAt (first_of (own_length_tests c.args.classes.now c.in_ok-class.class c.args.name.now c.in_ok-value.value)) stop =
-    subst (λ (own : List ℕ). StopsAt (first_of (own_length_tests c.args.classes.now own c.args.name.now c.in_ok-value.value)) stop) c.as_slice.ensures c.in_err-length.ensures.told in
-    stopped c.args.classes.now c.args.table.now.heads c.args.trees.now.trees c.args.name.now c.args.value.now c.from_residual-in_err-length.result p.0 stop p.1 p.2
-    (stops_at_length c.args.classes.now c.args.table.now.heads c.args.trees.now.trees c.args.name.now c.args.value.now stop c.in_ok-check_name.ensures c.in_ok-check_no_tree.ensures c.in_ok-value.value c.in_ok-value.ensures.value c.in_ok-class.ensures.told c.in_ok-cycle.ensures.told c.in_ok-class.class c.in_ok-class.ensures.class told)
-
-pub returns-in_err-check_counts-clause-answers : goal.returns-in_err-check_counts-clause-answers
-returns-in_err-check_counts-clause-answers c =
-    let p = err_from_is_err_and c.from_residual-in_err-check_counts.result c.from_residual-in_err-check_counts.ensures.1 in
-    let stop = c.in_err-check_counts.field-0.0 in
-    let short : first_of (own_length_tests c.args.classes.now c.in_ok-class.class c.args.name.now c.in_ok-value.value) ≡ None =
-    subst (λ (own : List ℕ). first_of (own_length_tests c.args.classes.now own c.args.name.now c.in_ok-value.value) ≡ None) c.as_slice.ensures c.in_ok-length.ensures.told in
-    stopped c.args.classes.now c.args.table.now.heads c.args.trees.now.trees c.args.name.now c.args.value.now c.from_residual-in_err-check_counts.result p.0 stop p.1 p.2
-    (stops_at_counts c.args.classes.now c.args.table.now.heads c.args.trees.now.trees c.args.name.now c.args.value.now stop c.in_ok-check_name.ensures c.in_ok-check_no_tree.ensures c.in_ok-value.value c.in_ok-value.ensures.value c.in_ok-class.ensures.told c.in_ok-cycle.ensures.told c.in_ok-class.class c.in_ok-class.ensures.class short c.in_err-check_counts.ensures)
-
--- the object that is to be stored
-abbrev made : In_ok-name → StoredObject
-made c = record { name = c.in_ok-name.name; class = c.in_ok-class.class; cycle = c.in_ok-cycle.cycle; length = c.in_ok-length.length; value = c.in_ok-value.value }
-
--- what is done can be done
-done : (c : In_ok-name) → CanBeStored c.args.classes.now c.args.table.now.heads c.args.value.now (made c)
-done c =
-    let named = c.in_ok-name.ensures in
-    let short : first_of (own_length_tests c.args.classes.now c.in_ok-class.class c.args.name.now c.in_ok-value.value) ≡ None =
-    subst (λ (own : List ℕ). first_of (own_length_tests c.args.classes.now own c.args.name.now c.in_ok-value.value) ≡ None) c.as_slice.ensures c.in_ok-length.ensures.told in
-    can_be_stored c.args.classes.now c.args.table.now.heads c.args.value.now (made c)
-    (subst (λ (n : List ℕ). Passed c.args.classes.now c.args.table.now.heads c.args.value.now (record (made c) { name = n })) (sym named) (record {
-      value = c.in_ok-value.ensures.value;
-      class = c.in_ok-class.ensures.class;
-      cycle = c.in_ok-cycle.ensures.cycle;
-      written = c.in_ok-length.ensures.length;
-      by_name = c.in_ok-check_name.ensures;
-      by_fit = c.in_ok-class.ensures.told;
-      by_cycle = c.in_ok-cycle.ensures.told;
-      by_length = short;
-      by_counts = c.in_ok-check_counts.ensures;
-    }))
+pub returns-in_err-check_items-clause-answers : goal.returns-in_err-check_items-clause-answers
+returns-in_err-check_items-clause-answers c =
+    let p = err_from_is_err_and c.from_residual-in_err-check_items.result c.from_residual-in_err-check_items.ensures.1 in
+    stopped_by_items c.args.classes.now c.args.table.now.heads c.args.trees.now.trees c.args.name.now c.args.value.now c.from_residual-in_err-check_items.result p.0 c.in_err-check_items.field-0.0 p.1 p.2
+    c.in_ok-object.ensures.told c.in_err-check_items.ensures
 
 -- no tree has the name
-apart : (c : In_ok-name) → tree_of c.args.name.now c.args.trees.now.trees ≡ None
-apart c = none_from _ (passes_one (is_some (tree_of c.args.name.now c.args.trees.now.trees)) NameIsTree c.in_ok-check_no_tree.ensures)
+apart : (c : In_ok-check_items) → tree_of c.args.name.now c.args.trees.now.trees ≡ None
+apart c = no_tree_named c.args.classes.now c.args.table.now.heads c.args.trees.now.trees c.args.name.now c.args.value.now 0 c.in_ok-object.ensures.told
 
 pub returns-clause-answers : goal.returns-clause-answers
 returns-clause-answers c =
-    put_answers c.args.classes.now c.args.table.now.heads c.args.trees.now.trees c.args.name.now c.args.value.now (made c) c.in_ok-name.ensures (apart c) (done c)
+    put_goes c.args.classes.now c.args.table.now.heads c.args.trees.now.trees c.args.name.now c.args.value.now c.in_ok-object.object c.in_ok-object.ensures.named (apart c)
+    c.in_ok-object.ensures.can c.in_ok-object.ensures.told c.in_ok-check_items.ensures
+
+pub returns-clause-sound : goal.returns-clause-sound
+returns-clause-sound c =
+    (c.in_ok-object.ensures.named, can_be_stored c.args.classes.now c.args.table.now.heads c.args.value.now c.in_ok-object.object c.in_ok-object.ensures.can c.in_ok-check_items.ensures)
 
 pub returns-clause-no_tree : goal.returns-clause-no_tree
 returns-clause-no_tree c = apart c
-
-pub returns-clause-sound : goal.returns-clause-sound
-returns-clause-sound c = (c.in_ok-name.ensures, done c)

@@ -1,7 +1,7 @@
-use Rattle.std.proofs.Common.{inl, subst}
+use Rattle.std.proofs.Common.{◌∙◌, inl, ap, subst, sym}
 use Rattle.rio_judge.specs.declared.work.AnyWork.TheVariants.{Item}
-use Rattle.rio_judge.specs.declared.work.Work.{Work}
-use Rattle.rio_session.specs.Doable.{IsToDo}
+use Rattle.rio_judge.specs.declared.work.Work.{Work, TheVariants.{Batch as StoringAll}}
+use Rattle.rio_session.specs.Doable.{CanBeDone, IsToDo}
 use Rattle.rio_session.proofs.CommandDoes.{get_is_done, ls_is_done}
 use Rattle.rio_session.proofs.session.Session.item_work.Goals as goal
 
@@ -10,6 +10,13 @@ returns-in-Class-clause-does g c command todo = c.class.ensures.does command (su
 
 pub returns-in-Put-clause-does : goal.returns-in-Put-clause-does
 returns-in-Put-clause-does g c command todo = c.put.ensures.does command (subst (λ (w : Work). IsToDo c.args.self.now command (Item w)) c.in-Put.is todo)
+
+pub put_all-requires-clause-can : goal.put_all-requires-clause-can
+put_all-requires-clause-can g c = subst (CanBeDone c.args.self.now) (c.in-Batch.is ∙ ap StoringAll (sym c.as_slice.ensures)) c.requires.can
+
+pub returns-in-Batch-clause-does : goal.returns-in-Batch-clause-does
+returns-in-Batch-clause-does g c command todo =
+    c.put_all.ensures.does command (subst (λ (w : Work). IsToDo c.args.self.now command (Item w)) (c.in-Batch.is ∙ ap StoringAll (sym c.as_slice.ensures)) todo)
 
 pub returns-in-Delete-clause-does : goal.returns-in-Delete-clause-does
 returns-in-Delete-clause-does g c command todo = c.delete.ensures.does command (inl (subst (λ (w : Work). IsToDo c.args.self.now command (Item w)) c.in-Delete.is todo))

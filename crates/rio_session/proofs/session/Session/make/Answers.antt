@@ -23,7 +23,7 @@ record_of-requires-clause-short c =
     let date = ap (λ (s : SessionState). s.datime) c.self.view_is in
     let words = c.in_ok-words.ensures ∙ ap (λ (d : ℕ). stored_words c.args.place d o) date in
     let classes = c.classes.ensures ∙ ap (λ (s : SessionState). s.classes) c.self.view_is in
-    let size = data_size s.classes c.args.place s.datime o c.requires.stored c.requires.low (omega (arith, date)) in
+    let size = data_size s.classes c.args.place s.datime o c.requires.stored in
     subst (λ (x : KeyWords × List ClassDef). length (object_data x.1 x.0 o.value) ≤ 16777216) (λ i. (sym words i, sym classes i)) (omega (arith, size, c.requires.stored.size_short))
 
 pub returns : goal.returns
