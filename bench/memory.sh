@@ -2,7 +2,7 @@
 # Refuses the allocations of runs, one after the other, and looks at how each ends and at what it leaves.
 # Usage: bench/memory.sh [ROW] (of the proved program: `./build` makes it, or PROGRAM names it; a C compiler has to be there). With ROW it
 # does the rows alone whose names have it. Each row is a run: the worked run of five lines, on a new file and on an existing one, classes and
-# counted arrays, trees with counted leaves, recoveries of files with records that nothing refers to, among them one with two headers of a
+# counted arrays, batches, trees with counted leaves, recoveries of files with records that nothing refers to, among them one with two headers of a
 # tree, an import, a generated file, and each reading verb. It is done for each number N of an
 # allocation that it makes: the Nth fails alone, and then all from the Nth on. The status has to be 5 with its line on standard
 # error, or all has to be as without a failure. What is printed has to be whole replies, of a reading verb whole lines. A recovery
@@ -53,6 +53,9 @@ def put_back(before):
 
 STRING = 'put {} TObjString{{TObject{{fUniqueID: 0, fBits: 0}}, fString: "{}"}}'
 FIVE = [STRING.format("s", "hi"), STRING.format("s", "ho"), "delete s;2", STRING.format("s", "hu"), "ls"]
+ITEM = 'TObjString{{TObject{{fUniqueID: 0, fBits: 0}}, fString: "{}"}}'
+BATCHES = ["class Q 1 { a: i32 }", f"batch {{ b {ITEM.format('x')}, a {ITEM.format('y')}, b {ITEM.format('z')} }}", "get b;1", "delete b;1",
+           f"batch {{ c Q{{a: 1}}, d {ITEM.format('w')} }}", f"batch {{ e {ITEM.format('v')}, f 5 }}", f"batch {{ b {ITEM.format('u')} }}", "ls"]
 TREES = ["tree V n=n/I v=v[n]/F", "fill V [0, []]", "fill V [3, [0x3f800000, 0x40000000, 0x40400000]]", "fill V [0, []]", "save V", "scan V",
          "class P 1 { a: i32 }", "tree T x=x/C p=class:P", 'fill T ["a", P{a: 1}]', "fill V [1, [0x00000001]]", "fill T [5]", "class P 2 { b: i64 }",
          'fill T ["", P{b: 2}]', "save T", "delete V;2", "scan T as P#2", 'fill T ["c", P{b: 3}]', "ls"]
@@ -203,6 +206,8 @@ ROWS = [
     ("five lines, existing file", ["run", "a.root"], gaps, FIVE),
     ("classes, new file", ["run", "a.root"], None, CLASSES),
     ("classes, existing file", ["run", "a.root"], classes, [CLASSES[1].replace("C{n", "C{Node{val: 0, next: null}, n").replace("w: [7, 255]", 't: "u"'), *CLASSES[2:3], "class E 1 { }", "delete L;1", "ls"]),
+    ("batches, new file", ["run", "a.root"], None, BATCHES),
+    ("batches, existing file", ["run", "a.root"], gaps, BATCHES[1:4] + [f"batch {{ g {ITEM.format('t')}, s {ITEM.format('q')} }}", "ls"]),
     ("trees, new file", ["run", "a.root"], None, TREES),
     ("trees, existing file", ["run", "a.root"], filled, ['fill T ["d", P{b: 4}]', "save T", "tree U y=y/D", "fill U [0x3ff0000000000000]", "scan T", "delete T;4", "ls"]),
     ("recover with two headers of a tree", ["recover", "a.root"], with_two_headers(), ()),
