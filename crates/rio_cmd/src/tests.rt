@@ -4,7 +4,7 @@ use rio_decl::print_class;
 use rio_leaf::{BranchDef, Shape, print_leaves};
 use rio_machine::{Command, Commands, PutItem};
 use rio_num::{Bytes, Name, NoMemory, Words};
-use rio_types::Base;
+use rio_format::Base;
 use rio_valtext::print_value;
 use std::alloc::Global;
 use std::test::Fail;

@@ -3,7 +3,7 @@ use crate::{RowReader, import_script, print_row, read_rows};
 use rio_leaf::{BranchDef, BranchDefs, Dim, Leaf, Leaves, Shape};
 use rio_machine::Command;
 use rio_num::{Bytes, Name};
-use rio_value::{Rows, Value, Values};
+use rio_format::{Rows, Value, Values};
 use std::alloc::Global;
 use std::test::Fail;
 

@@ -4,8 +4,7 @@ ghost use Rattle.rio_leaf.specs.declared.branch.Shape.TheVariants.{Leaves as Lea
 ghost use Rattle.rio_entry.specs.Entries.{entry_written};
 ghost use Rattle.rio_num.specs.Answers.{GivesUnless};
 ghost use Rattle.rio_machine.specs.declared.entry_fault.EntryFault.TheVariants.{NoMemory as OutOfMemory};
-ghost use Rattle.rio_types.specs.declared.class.ClassDef.{ClassDef as Class};
-ghost use Rattle.rio_value.specs.declared.value.Value.{Value as Given};
+ghost use Rattle.rio_format.specs.{declared.class.ClassDef.{ClassDef as Class}, declared.value.Value.{Value as Given}};
 
 use crate::EntryFault;
 use crate::counter::LeafCounters;
@@ -14,8 +13,7 @@ use crate::put::{leaves_length, leaves_written};
 use rio_fit::fits;
 use rio_leaf::{BranchDef, Leaf, Shape};
 use rio_num::Bytes;
-use rio_types::Classes;
-use rio_value::{Value, Values};
+use rio_format::{Classes, Value, Values};
 use rio_write::{write_object, written_length};
 use std::alloc::Global;
 

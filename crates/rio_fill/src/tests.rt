@@ -10,8 +10,7 @@ use rio_entry::EntryFault;
 use rio_leaf::{BranchDef, Dim, Leaf, Leaves, Shape};
 use rio_num::{Name, NoMemory};
 use rio_tree::{BasketAt, Baskets, Branch, BranchNumbers, Branches, TreeHead};
-use rio_types::Classes;
-use rio_value::{Value, Values};
+use rio_format::{Classes, Value, Values};
 use std::alloc::Global;
 use std::test::Fail;
 

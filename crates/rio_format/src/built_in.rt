@@ -4,7 +4,7 @@ ghost use Rattle.std.specs.Str.{bytes_eq};
 ghost use Rattle.rio_format.specs.Bodies.{headed_class, headless_class, row_of};
 
 use crate::form::Form;
-use rio_types::Prim;
+use crate::Prim;
 
 /// A class that is built in.
 #[derive(Clone, Copy)]

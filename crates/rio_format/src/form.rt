@@ -3,7 +3,7 @@ ghost use Rattle.std.specs.Prelude.{◌≡◌};
 ghost use Rattle.rio_format.specs.Bodies.{form_of};
 
 use crate::built_in::BuiltIn;
-use rio_types::Prim;
+use crate::Prim;
 
 /// How an object of a class begins.
 #[derive(Clone, Copy)]

@@ -3,7 +3,7 @@ use crate::{Summary, add_integers, generated, print_summary};
 use rio_leaf::{BranchDef, Dim, Shape};
 use rio_machine::Command;
 use rio_num::{Bytes, NoMemory};
-use rio_value::Value;
+use rio_format::Value;
 use std::alloc::Global;
 use std::test::Fail;
 

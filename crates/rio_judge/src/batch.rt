@@ -20,7 +20,7 @@ use rio_dir::KeyTable;
 use rio_machine::{PutItem, Refusal};
 use rio_num::NoMemory;
 use rio_tree_table::TreeTable;
-use rio_types::Classes;
+use rio_format::Classes;
 use std::alloc::Global;
 use std::collections::BTreeMap;
 

@@ -24,9 +24,8 @@ use rio_key::key_length_of;
 use rio_machine::Refusal;
 use rio_num::{Name, padded};
 use rio_tree_table::TreeTable;
-use rio_types::Classes;
+use rio_format::{Classes, Value, depth, longest_list};
 use rio_valtext::resolved;
-use rio_value::{Value, depth, longest_list};
 use rio_write::written_length;
 use std::alloc::Global;
 

@@ -10,7 +10,7 @@ ghost use Rattle.rio_judge.specs.Trees.{IsRowJudgement};
 use crate::NewRow;
 use crate::limit::{CYCLE_LIMIT, DEPTH_LIMIT, LIST_LIMIT};
 use rio_machine::{EntryFault, Refusal};
-use rio_value::{Value, depth, longest_list};
+use rio_format::{Value, depth, longest_list};
 
 fn is_too_deep(value: &Value) -> bool
     ensures { result ≡ is_too_deep value.now }

@@ -9,7 +9,7 @@ use rio_machine::Command;
 use rio_num::{Bytes, Name, NoMemory};
 use rio_registry::Registry;
 use rio_valtext::read_value;
-use rio_value::Value;
+use rio_format::Value;
 use std::alloc::Global;
 
 mod batches;

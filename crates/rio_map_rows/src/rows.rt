@@ -2,9 +2,8 @@
 use rio_decl::read_class;
 use rio_map::{MapFault, as_version, flat_as, kind_zero};
 use rio_num::{Bytes, Name, NoMemory};
-use rio_types::{ClassDef, Classes, Kind, Member, Prim};
+use rio_format::{ClassDef, Classes, Kind, Member, Part, Parts, Prim, Value};
 use rio_valtext::{TextFault, print_value, read_value};
-use rio_value::{Part, Parts, Value};
 use std::alloc::Global;
 
 // The kind of the last member of a class before and after, a value, and what becomes of it.

@@ -2,16 +2,12 @@
 ghost use Rattle.std.specs.Prelude.{◌+◌, ◌<◌, ◌^◌, length, IfOk, IsTrue};
 ghost use Rattle.rio_num.specs.Answers.{TellsUnless};
 ghost use Rattle.rio_num.specs.At.{AreBytes, GoesOn};
-ghost use Rattle.rio_buffer.specs.declared.fault.ObjFault.TheVariants.{NoMemory as OutOfMemory};
-ghost use Rattle.rio_format.specs.Objects.{BreaksObject, value_at};
-ghost use Rattle.rio_format.specs.BuiltIn.{is_small_builtin};
+ghost use Rattle.rio_format.specs.{declared.fault.ObjFault.TheVariants.{NoMemory as OutOfMemory}, Objects.{BreaksObject, value_at}, BuiltIn.{is_small_builtin}};
 ghost use Rattle.rio_read.specs.FirstFault.{BreaksNext, RefusesBreak};
 ghost use Rattle.rio_read.specs.Reading.{Answers, AnswersFront, HasFront, IsRead, IsSpelled, ReadsNext};
 
 use crate::object;
-use rio_buffer::{ObjFault, ObjReader};
-use rio_types::Classes;
-use rio_value::Value;
+use rio_format::{Classes, ObjFault, ObjReader, Value};
 use std::alloc::Global;
 
 /// How deep an object may be.

@@ -6,7 +6,7 @@ use crate::names::knows_all;
 use crate::reach::holds_itself;
 use rio_model::DeclareFault;
 use rio_num::NoMemory;
-use rio_types::{ClassDef, Classes};
+use rio_format::{ClassDef, Classes};
 
 // How many classes can be declared.
 const CLASS_LIMIT: usize = 4096;

@@ -10,8 +10,7 @@ use rio_machine::Refusal;
 use rio_model::MapFault;
 use rio_num::{Boxed, Bytes, Name};
 use rio_tree_table::{KeptTree, TreeTable};
-use rio_types::Classes;
-use rio_value::{Value, Values};
+use rio_format::{Classes, Value, Values};
 use std::alloc::Global;
 use std::test::Fail;
 

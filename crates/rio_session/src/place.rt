@@ -14,8 +14,7 @@ use rio_judge::StoredObject;
 use rio_key::key_length_of;
 use rio_num::{Name, NoMemory};
 use rio_state::END_LIMIT;
-use rio_types::Classes;
-use rio_value::Value;
+use rio_format::{Classes, Value};
 use rio_write::write_object;
 use std::alloc::Global;
 

@@ -22,7 +22,7 @@ pub struct Total {
 
 impl Total {
     ghost use Rattle.std.specs.Prelude.{◌≡◌, ◌+◌, min};
-    ghost use Rattle.rio_buffer.specs.Writer.{class_bytes};
+    ghost use Rattle.rio_format.specs.Writer.{class_bytes};
     ghost use Rattle.rio_write.specs.Measuring.{Measures, too_long};
 
     // So many more bytes.

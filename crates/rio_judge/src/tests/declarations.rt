@@ -7,7 +7,7 @@ use crate::{Judged, NewClass, Work, judge};
 use rio_machine::Command;
 use rio_num::{Name, NoMemory};
 use rio_registry::{DeclareFault, Registry};
-use rio_types::{Base, Bases, ClassDef, Kind, Member, Members, Prim};
+use rio_format::{Base, Bases, ClassDef, Kind, Member, Members, Prim};
 use std::alloc::Global;
 
 // A base, or a member of this name: an i32, an object of a class or a pointer to one.

@@ -3,7 +3,7 @@ use crate::tests::Found;
 use crate::tests::declarations::{bare_class, inline, is_found, number};
 use rio_num::{Bytes, NoMemory};
 use rio_registry::{DeclareFault, Registry};
-use rio_types::ClassDef;
+use rio_format::ClassDef;
 use std::alloc::Global;
 
 static BLOCK: [u8; 4096] = [b'x'; 4096];

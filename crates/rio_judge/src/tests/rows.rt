@@ -2,7 +2,7 @@
 use crate::{NewRow, judge_row};
 use rio_machine::EntryFault;
 use rio_num::{Items, Name, NoMemory};
-use rio_value::{Part, Value, Values};
+use rio_format::{Part, Value, Values};
 use std::alloc::Global;
 
 // What a row has: a number, an object in so many others, or a list of so many numbers.

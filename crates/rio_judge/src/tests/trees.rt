@@ -9,8 +9,7 @@ use rio_machine::Command;
 use rio_num::{Bytes, Name, NoMemory};
 use rio_registry::Registry;
 use rio_tree_table::{KeptTree, TreeTable};
-use rio_types::Base;
-use rio_value::Values;
+use rio_format::{Base, Values};
 use std::alloc::Global;
 
 // A branch of so many leaves, or one of objects of the class.

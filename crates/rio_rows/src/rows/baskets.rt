@@ -1,7 +1,7 @@
 //! Baskets of a file, good and bad, and baskets that are filled.
 mod fields;
 
-use rio_basket::{Basket, BasketFault, Entries, StoredBasket, read_basket};
+use rio_key::{Basket, BasketFault, Entries, StoredBasket, read_basket};
 use rio_num::{Bytes, NoMemory};
 use std::alloc::Global;
 

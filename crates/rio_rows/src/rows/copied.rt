@@ -1,6 +1,6 @@
 //! A copy of a value.
 use crate::rows::objects::values::{Tree, value_of};
-use rio_value::{Value, copy, depth, longest_list};
+use rio_format::{Value, copy, depth, longest_list};
 use std::alloc::Global;
 
 // A list of a pointer and of an object that wasn't read.

@@ -6,7 +6,7 @@ mod stated;
 use crate::rows::classes::{ClassRow, Holds, is_text};
 use rio_decl::print_class;
 use rio_num::{Bytes, NoMemory};
-use rio_types::{ClassDef, Prim};
+use rio_format::{ClassDef, Prim};
 use std::alloc::Global;
 
 // Classes, and their text behind what stood there.

@@ -7,8 +7,7 @@ use crate::rows::leaf_lists::branch_of_row;
 use rio_entry::{read_entry, write_entry};
 use rio_leaf::BranchDef;
 use rio_num::NoMemory;
-use rio_types::Classes;
-use rio_value::{Value, Values};
+use rio_format::{Classes, Value, Values};
 use std::alloc::Global;
 
 // A value that is no list, and a value of a row.

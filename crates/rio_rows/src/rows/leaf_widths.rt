@@ -3,7 +3,7 @@ use crate::rows::leaf_lists::leaves_of_row;
 use rio_leaf::{BranchDef, LeafFault, Shape};
 use rio_num::Name;
 use rio_tree::{Baskets, Branch, BranchNumbers, Branches, TreeHead, tree_value};
-use rio_value::Value;
+use rio_format::Value;
 use std::alloc::Global;
 
 // A leaf of each letter, and fLenType. A text says 1.

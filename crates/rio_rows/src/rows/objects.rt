@@ -12,10 +12,9 @@ mod written;
 
 use crate::rows::classes::{ClassRow, classes_of};
 use crate::rows::hex::hex_bytes;
-use rio_buffer::ObjFault;
+use rio_format::{Classes, ObjFault};
 use rio_num::Bytes;
 use rio_stream::read_object;
-use rio_types::Classes;
 use rio_valtext::print_value;
 
 // Appends the text of the object of the bytes, or returns its first fault.

@@ -1,6 +1,6 @@
 //! Classes and their parts as text, as the tests compare them.
 use rio_num::{Bytes, NoMemory};
-use rio_types::{Base, ClassDef, Kind, Member, Prim};
+use rio_format::{Base, ClassDef, Kind, Member, Prim};
 use std::alloc::Global;
 
 fn prim_name(of: Prim) -> &'static str {

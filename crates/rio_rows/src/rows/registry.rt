@@ -2,7 +2,7 @@
 use crate::rows::classes::{bare_class, name_of};
 use rio_num::{Name, NoMemory};
 use rio_registry::{DeclareFault, Registry, is_reserved_name};
-use rio_types::{Base, ClassDef, Kind, Member, Members};
+use rio_format::{Base, ClassDef, Kind, Member, Members};
 use std::alloc::Global;
 
 // A class and the answer to its declaration. Its parts are bases `:NAME`, members by value `=NAME` and pointers `*NAME`.

@@ -5,7 +5,7 @@ use rio_key::{Heads, KeyHead};
 use rio_leaf::{BranchDef, Leaves, Shape, read_leaves};
 use rio_num::{Bytes, Name, Numbers};
 use rio_tree::{BasketAt, Baskets, Branch, BranchNumbers, Branches, TreeHead};
-use rio_types::Classes;
+use rio_format::Classes;
 use std::alloc::Global;
 use std::test::Fail;
 

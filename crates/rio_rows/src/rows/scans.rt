@@ -3,14 +3,13 @@ ghost use Rattle.std.specs.Prelude.{◌≡◌, IfOk};
 ghost use Rattle.rio_index.specs.Scan.{CanHold, CanScan};
 ghost use Rattle.rio_tree.specs.Index.{IsIndex};
 
-use rio_basket::StoredBasket;
+use rio_key::StoredBasket;
 use rio_entry::EntryFault;
 use rio_index::{Scanner, basket_from, basket_of, entry_count};
 use rio_leaf::{BranchDef, LeafFault, Leaves, Shape, read_leaves};
 use rio_num::{Name, NoMemory};
 use rio_tree::{BasketAt, Baskets, Branch, BranchNumbers, BranchRefusal, Branches, TreeHead};
-use rio_types::Classes;
-use rio_value::{Value, Values};
+use rio_format::{Classes, Value, Values};
 use std::alloc::Global;
 
 fn at(first: u64) -> BasketAt

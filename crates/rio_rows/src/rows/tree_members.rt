@@ -1,7 +1,7 @@
 //! The header that is written for a tree, member by member.
 use crate::rows::trees::value_of_v;
 use rio_num::{Bytes, NoMemory};
-use rio_value::{Part, Value};
+use rio_format::{Part, Value};
 use std::alloc::Global;
 
 // Tree V with the branches n=n/I, v=v[n]/F:t[3]/s:c/C and e=class:Node: three entries, of which each branch has a basket or

@@ -5,7 +5,7 @@ use rio_num::Name;
 use rio_tree::{
     BasketAt, Baskets, Branch, BranchNumbers, Branches, TreeHead, read_tree, tree_value,
 };
-use rio_value::Value;
+use rio_format::Value;
 use std::alloc::Global;
 
 // A branch of three entries: its leaves, or the class of its objects and its version; whether its baskets have offsets; and the

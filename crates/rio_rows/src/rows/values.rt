@@ -6,7 +6,7 @@ mod resolved;
 use crate::rows::classes::{is_text, name_of};
 use rio_num::{Boxed, Bytes, Name, NoMemory};
 use rio_valtext::print_value;
-use rio_value::{Part, Parts, Value, Values};
+use rio_format::{Part, Parts, Value, Values};
 use std::alloc::Global;
 
 // A value without others in it.

@@ -5,7 +5,7 @@
 mod equal;
 mod offsets;
 
-use rio_basket::{BasketFault, Entries, StoredBasket, read_basket};
+use rio_key::{BasketFault, Entries, StoredBasket, read_basket};
 use rio_num::{Bytes, NoMemory};
 use std::alloc::Global;
 

@@ -4,7 +4,7 @@ use crate::rows::printed::printed_members;
 use rio_decl::{TextFault, checksum, print_class, read_class, take_class};
 use rio_num::{Bytes, NoMemory};
 use rio_token::Tokens;
-use rio_types::ClassDef;
+use rio_format::ClassDef;
 use std::alloc::Global;
 
 // Declarations that are printed as they are read.

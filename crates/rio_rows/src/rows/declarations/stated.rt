@@ -3,7 +3,7 @@ use crate::rows::classes::{Holds, base_of, member_of};
 use crate::rows::declarations::read::class_in;
 use rio_decl::{TextFault, checksum, is_stated};
 use rio_num::NoMemory;
-use rio_types::{ClassDef, Prim};
+use rio_format::{ClassDef, Prim};
 use std::alloc::Global;
 
 // A third member of the class `A 1 { n: i32, w: u8[n] }`, its title, and whether the class can be declared with it.

@@ -3,8 +3,7 @@ use super::counts_of;
 use crate::rows::leaf_lists::branch_of_row;
 use rio_entry::{EntryFault, check_entry, entry_numbers, read_entry};
 use rio_leaf::BranchDef;
-use rio_types::Classes;
-use rio_value::Values;
+use rio_format::{Classes, Values};
 use std::alloc::Global;
 
 // The leaves, what counts each of them in an earlier branch, the bytes, and the place where they break.

@@ -7,8 +7,7 @@ use crate::rows::leaf_lists::branch_of_row;
 use rio_entry::entry_numbers;
 use rio_leaf::BranchDef;
 use rio_num::NoMemory;
-use rio_types::Classes;
-use rio_value::Values;
+use rio_format::{Classes, Values};
 use std::alloc::Global;
 
 // The leaves, what counts each of them in an earlier branch, the bytes, and the numbers.

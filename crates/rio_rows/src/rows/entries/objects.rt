@@ -4,8 +4,7 @@ use super::row_of;
 use crate::rows::classes::{ClassRow, Holds, classes_of};
 use rio_leaf::{BranchDef, Shape};
 use rio_num::{Name, NoMemory};
-use rio_types::{Bases, ClassDef, Classes, Kind, Member, Members, Prim};
-use rio_value::{Value, Values};
+use rio_format::{Bases, ClassDef, Classes, Kind, Member, Members, Prim, Value, Values};
 use std::alloc::Global;
 
 fn member(alloc: Global, name: &str, kind: Kind) -> Result<Member, NoMemory> {

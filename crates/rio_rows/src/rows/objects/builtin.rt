@@ -1,20 +1,15 @@
 //! Small built-in objects that are read and written by themselves.
 ghost use Rattle.std.specs.Prelude.{◌≡◌, ◌≤◌, [], ◌∷◌, length, pos, codes, IfOk, IsTrue};
-ghost use Rattle.rio_format.specs.Objects.{bare_object, pid_part};
-ghost use Rattle.rio_format.specs.Written.{written_form};
-ghost use Rattle.rio_format.specs.BuiltIn.{is_small_builtin};
-ghost use Rattle.rio_value.specs.declared.value.Value.{Int};
+ghost use Rattle.rio_format.specs.{Objects.{bare_object, pid_part}, Written.{written_form}, BuiltIn.{is_small_builtin}, declared.value.Value.{Int}};
 ghost use Rattle.rio_write.specs.Small.{IsSmallObject};
 
 use super::values::{STRING, Tree, value_of};
 use crate::rows::hex::is_hex_of;
 use Tree::{Int, List, Object, TObject, Text};
-use rio_buffer::{ObjFault, ObjReader, ObjWriter};
+use rio_format::{Classes, ObjFault, ObjReader, ObjWriter, Part, Parts, Value};
 use rio_num::{Bytes, Name, NoMemory};
 use rio_stream::{fits, read_builtin, write_builtin, written_length};
-use rio_types::Classes;
 use rio_valtext::print_value;
-use rio_value::{Part, Parts, Value};
 use std::alloc::Global;
 
 // Appends the text of the next object of the class.

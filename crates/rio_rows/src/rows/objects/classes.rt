@@ -1,7 +1,7 @@
 //! The classes of the rows of objects.
 use crate::rows::classes::{ClassRow, Holds};
 use Holds::{Counted, Counter, Fixed, Inline, Other, Plain, Pointer, Text};
-use rio_types::Prim;
+use rio_format::Prim;
 
 // The checksum of each class.
 const SUM: u32 = 0x1234_5678;

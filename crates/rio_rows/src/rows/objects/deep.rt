@@ -2,11 +2,9 @@
 use super::classes::CLASSES;
 use crate::rows::classes::classes_of;
 use crate::rows::hex::hex_bytes;
-use rio_buffer::ObjFault;
+use rio_format::{Classes, ObjFault, depth};
 use rio_num::{Bytes, NoMemory};
 use rio_stream::read_object;
-use rio_types::Classes;
-use rio_value::depth;
 use std::alloc::Global;
 
 // As many nodes, and what the pointer of the last one points to.

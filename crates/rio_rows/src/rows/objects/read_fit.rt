@@ -2,9 +2,8 @@
 use super::classes::CLASSES;
 use crate::rows::classes::classes_of;
 use crate::rows::hex::hex_bytes;
-use rio_buffer::ObjFault;
+use rio_format::{Classes, ObjFault};
 use rio_stream::{fits, read_object};
-use rio_types::Classes;
 use std::alloc::Global;
 
 // What an object is read of, the class that it is to fit, and whether it does.

@@ -1,7 +1,7 @@
 //! Objects that are refused.
 use super::classes::CLASSES;
 use super::put_row;
-use rio_buffer::ObjFault;
+use rio_format::ObjFault;
 use rio_num::Bytes;
 use std::alloc::Global;
 

@@ -1,7 +1,7 @@
 //! Values as rows have them, and the values that they stand for.
 use crate::rows::classes::name_of;
 use rio_num::{Boxed, Name, NoMemory};
-use rio_value::{Part, Parts, Value, Values};
+use rio_format::{Part, Parts, Value, Values};
 use std::alloc::Global;
 
 /// A value of a row.

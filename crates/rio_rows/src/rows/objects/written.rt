@@ -3,11 +3,9 @@ use super::classes::CLASSES;
 use super::values::{Tree, object, put_part, value_of};
 use crate::rows::classes::classes_of;
 use crate::rows::hex::hex_bytes;
-use rio_buffer::ObjFault;
+use rio_format::{Classes, ObjFault, Parts, Value};
 use rio_num::{Bytes, Name, NoMemory};
 use rio_stream::{fits, read_object, write_object, written_length};
-use rio_types::Classes;
-use rio_value::{Parts, Value};
 use std::alloc::Global;
 
 // Objects as they are written, whose first byte has the place 34.

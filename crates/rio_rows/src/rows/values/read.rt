@@ -2,7 +2,7 @@
 use rio_num::{Bytes, NoMemory};
 use rio_token::Tokens;
 use rio_valtext::{TextFault, read_value, take_value, take_values};
-use rio_value::{Part, Value};
+use rio_format::{Part, Value};
 use std::alloc::Global;
 
 // Where the value ends that begins the text.

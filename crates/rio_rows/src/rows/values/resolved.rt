@@ -2,11 +2,10 @@
 use crate::rows::classes::{ClassRow, classes_of, is_text};
 use rio_num::{Bytes, NoMemory};
 use rio_token::Tokens;
-use rio_types::Classes;
+use rio_format::{Classes, Value, Values};
 use rio_valtext::{
     ResolveFault, TextFault, print_value, read_value, resolve, resolved_row, take_values,
 };
-use rio_value::{Value, Values};
 use std::alloc::Global;
 
 // The declared classes.

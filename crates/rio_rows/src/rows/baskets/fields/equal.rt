@@ -1,6 +1,6 @@
 //! Baskets whose entries have one length.
 use super::{Fields, Found, Row, found_otherwise};
-use rio_basket::BasketFault;
+use rio_key::BasketFault;
 
 /// The entries 1, 2 and 3, and three zero bytes.
 const X: Fields = Fields {

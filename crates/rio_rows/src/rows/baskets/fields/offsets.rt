@@ -1,6 +1,6 @@
 //! Baskets whose entries stand behind offsets. The number of offsets stands at 69, the offsets at 73, 77, 81 and 85.
 use super::{Fields, Found, Row, found_otherwise};
-use rio_basket::BasketFault;
+use rio_key::BasketFault;
 
 /// No byte, twelve and none, and three zero bytes behind the offsets.
 const V: Fields = Fields {
