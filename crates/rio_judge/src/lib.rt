@@ -34,6 +34,3 @@ pub use work::{
     AnyWork, Judged, JudgedWithTrees, NewClass, NewRow, NewTree, StoredObject, StoredObjects,
     TreeWork, Work,
 };
-
-#[cfg(test)]
-mod tests;
