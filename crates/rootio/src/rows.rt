@@ -17,7 +17,6 @@ mod header;
 mod images;
 mod import;
 mod limit;
-mod ls;
 mod many;
 mod parts;
 mod pen;
