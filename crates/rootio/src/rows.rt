@@ -4,7 +4,6 @@ mod cuts;
 mod damaged;
 mod declared;
 mod deletes;
-mod dump;
 mod entries;
 mod export;
 mod failing;

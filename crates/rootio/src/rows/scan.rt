@@ -1,6 +1,5 @@
 //! Rows of `scan`.
 use super::classes::ClassList;
-use super::dump;
 use super::entries::{
     BASKETS, ENTRIES_COUNTED_BY_TWO, ENTRIES_IN_BASKETS, ENTRIES_OF_ANOTHER_MAKER,
     ENTRIES_OF_LETTERS, ENTRIES_OF_LISTS, ENTRIES_OF_OBJECTS,
@@ -10,7 +9,7 @@ use super::forest::{Forest, Form};
 use super::header::{BARE_TREE, Basket, Branch, EMPTY_TREE, ENDLESS_TREE, Leaf, Tree};
 use super::parts::{FILE, FIVE, GOOD, INTEGER, SIX, TREE};
 use super::refused::{REFUSED_BY_FILE, REFUSED_BY_HEADER, REFUSED_COUNTERS, REFUSED_IN_ORDER};
-use super::runs::{changed, cut_otherwise, host_of, ran, says};
+use super::runs::{changed, cut_otherwise, ran, says};
 use crate::status::Status;
 use rio_host::MemHost;
 use rio_num::{Bytes, NoMemory, Numbers};
@@ -316,43 +315,6 @@ fn line_otherwise(alloc: Global) -> Option<&'static str> {
 #[test]
 fn lines(rt: HostRuntime) {
     assert_eq!(rt; line_otherwise(rt.alloc()), None);
-}
-
-// Whether it ends so over the host, and says nothing unless it is done.
-fn ends_by(alloc: Global, words: &[&str], host: &mut MemHost, status: Status) -> bool {
-    ran(alloc, words, host, b"") == Ok(status) && (host.said().is_empty() || status == Status::Done)
-}
-
-fn ends_as_dump(alloc: Global, words: &[&str], row: &dump::Row) -> Result<bool, NoMemory> {
-    let mut host = host_of(alloc, row.image(alloc)?, &[])?;
-    Ok(ends_by(alloc, words, &mut host, row.status))
-}
-
-// The first file of which it is told otherwise.
-fn bad_file_otherwise(alloc: Global, words: &[&str]) -> Option<&'static str> {
-    for row in &dump::ROWS {
-        if ends_as_dump(alloc, words, row) != Ok(true) {
-            return Some(row.name);
-        }
-    }
-    None
-}
-
-// A file with a fault is told as by `dump`, and no tree is in one without.
-#[test]
-fn bad_files(rt: HostRuntime) {
-    assert_eq!(rt;
-        bad_file_otherwise(rt.alloc(), &["scan", "b.root", "s"]),
-        None
-    );
-    assert_eq!(rt;
-        bad_file_otherwise(rt.alloc(), &["scan", "b.root", "s", "A#1"]),
-        None
-    );
-    assert_eq!(rt;
-        bad_file_otherwise(rt.alloc(), &["export", "b.root", "s"]),
-        None
-    );
 }
 
 // A tree of nine entries, in a small file and in a large one.
