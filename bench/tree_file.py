@@ -264,7 +264,7 @@ class Header:
     def leaf(self, leaf):
         """Other leaves have it as their counter by its name, or as the leaf `#N` of the tree, from 0 on."""
         values = dict(name=leaf.name, title=leaf.title, fLen=leaf.length, fLenType=WIDTHS.get(leaf.letter, 4),
-                      fIsUnsigned=leaf.letter in 'bsil', fLeafCount=lambda: self.word(self.words.get(leaf.counter, 0)))
+                      fIsUnsigned=leaf.letter.islower(), fLeafCount=lambda: self.word(self.words.get(leaf.counter, 0)))
         word = self.buffer.pointer(leaf.kind, lambda: self.members(leaf.kind, leaf.version, values))
         self.words[leaf.name] = self.words[f'#{len(self.places)}'] = word
         self.places.append(word)

@@ -5,13 +5,14 @@ Usage: forest.py FILE <DESCRIPTION
 
     large                               the large form, with all records but the first past 3,000,000,000 (sparse)
     class NAME VERSION : BASES { .. }   a class of the class list, as `dump` prints it; a base may be NAME#VERSION
-    only                                the class list doesn't begin with the classes of trees
+    only                                the class list has these alone, without the classes of trees
     tree NAME ENTRIES [WORD..]          a tree of the branches that follow; cycle=N, version=N of TTree
     branch NAME ENTRIES WORD.. | ..     a branch, with its baskets, each after a bar
     null                                a null pointer in place of a branch
     object NAME CYCLE [CLASS [DATA]]    an object
 
-WORD of a branch: a leaf, which is NAME, [COUNTER] or [LENGTH] or both, and /LETTER or /CLASS, with #VERSION where that isn't 101;
+WORD of a branch: a leaf, which is NAME, [COUNTER] or [LENGTH] or both, and /LETTER or /CLASS, with #VERSION where that isn't 101 (a small
+letter is unsigned);
 objects=CLASS; class=CLASS and version=N of the branch; `parent` and `embedded`, where fBranches and fBaskets have an object; more=N,
 how many more baskets fWriteBasket says. COUNTER is the name of an earlier leaf, or #N for leaf N of the tree, from 0 on.
 
@@ -132,7 +133,8 @@ class Forest(made.File):
         super().__init__(path, "a.root", "large" in lines)
         self.padded = False
         self.place = FAR if self.large else self.place
-        self.classes = [] if "only" in lines else made.tree_classes()
+        self.classes = made.tree_classes()
+        self.first = len(self.classes) if "only" in lines else 0
         for it in lines:
             if it.startswith("class "):
                 self.classes.append(class_of(it, self.classes))
@@ -167,7 +169,7 @@ def main(path):
             forest.tree(itertools.takewhile(lambda it: it == "null" or it.startswith("branch "), lines[k:]), *words)
         elif what == "object":
             forest.object(*words)
-    forest.close(forest.classes)
+    forest.close(forest.classes[forest.first :])
 
 
 if __name__ == "__main__":
