@@ -1,13 +1,11 @@
 //! Worked rows: what the program answers for files whose bytes and listings come from the format's rules.
+mod changes;
 mod classes;
 mod cuts;
 mod damaged;
 mod declared;
 mod deletes;
-mod entries;
-mod export;
 mod failing;
-mod far;
 mod faults;
 mod forest;
 mod generated;
@@ -24,7 +22,6 @@ mod refused;
 mod run;
 mod runs;
 mod scan;
-mod scan_versions;
 mod stops;
 mod tree_recovery;
 mod trees;
