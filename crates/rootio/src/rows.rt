@@ -28,4 +28,3 @@ mod trees;
 mod two_headers;
 mod undone;
 mod usage;
-mod versions;
