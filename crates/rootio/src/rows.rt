@@ -32,5 +32,4 @@ mod tree_recovery;
 mod trees;
 mod two_headers;
 mod undone;
-mod usage;
 mod versions;
