@@ -29,7 +29,6 @@ mod scan;
 mod scan_versions;
 mod stops;
 mod tree_recovery;
-mod trees;
 mod two_headers;
 mod undone;
 mod versions;
