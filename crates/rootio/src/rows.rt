@@ -24,7 +24,5 @@ mod runs;
 mod scan;
 mod stops;
 mod tree_recovery;
-mod trees;
 mod two_headers;
 mod undone;
-mod usage;
