@@ -5,7 +5,6 @@ mod class_lists;
 mod class_search;
 mod classes;
 mod copied;
-mod declarations;
 mod elements;
 mod entries;
 mod gaps;
