@@ -20,7 +20,5 @@ mod printed;
 mod refusals;
 mod registry;
 mod resolved;
-mod saved_rows;
-mod scans;
 mod tokens;
 mod tree_heads;
