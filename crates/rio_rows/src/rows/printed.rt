@@ -110,13 +110,6 @@ fn put_class(printed: &mut Bytes, class: &ClassDef) -> Result<(), NoMemory> {
     put_members(printed, class.members.as_slice())
 }
 
-/// The members of a class as text.
-pub(crate) fn printed_members(alloc: Global, class: &ClassDef) -> Result<Bytes, NoMemory> {
-    let mut printed = Bytes::new(alloc);
-    put_members(&mut printed, class.members.as_slice())?;
-    Ok(printed)
-}
-
 fn put_classes(printed: &mut Bytes, classes: &[ClassDef]) -> Result<(), NoMemory> {
     let mut before = "";
     for class in classes {
