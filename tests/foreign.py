@@ -1,5 +1,5 @@
 #!/usr/bin/env python3
-"""Makes a file of one object, in a class list that no script gives.
+"""Makes a file of one object, with a class list that no script gives.
 
 Usage: foreign.py FILE <DESCRIPTION  The file has a tree `T` with one branch of objects and one entry.
 
@@ -17,7 +17,8 @@ sys.path.append(os.path.dirname(os.path.dirname(os.path.realpath(__file__))) + "
 from tree_file import Branch, File, base, basic, counted, element, fixed, tree_classes, tree_header, u16, u32  # noqa: E402
 
 # Of each kind of numbers: its code and size.
-KINDS = dict(i8=(1, 1), i16=(2, 2), i32=(3, 4), counter=(6, 4), i64=(16, 8), f32=(5, 4), f64=(8, 8), u8=(11, 1), bool=(18, 1))
+KINDS = dict(i8=(1, 1), i16=(2, 2), i32=(3, 4), i64=(16, 8), u8=(11, 1), u16=(12, 2), u32=(13, 4), u64=(17, 8), bool=(18, 1), f32=(5, 4),
+             f64=(8, 8), counter=(6, 4))
 
 
 def member(text, owner):
