@@ -5,7 +5,7 @@ use Rattle.rio_host.specs.{Host.{Any, Becomes, Elapses, IsQuiet, Leaves, View}, 
 use Rattle.rio_key.specs.declared.head.KeyHead.{KeyHead}
 use Rattle.rio_dir.specs.{Listing.{key_lines}, Unborn.{header_fault, is_unborn}}
 use Rattle.rio_machine.specs.{State.{State}, declared.command.Command.{Command}}
-use Rattle.rio_state.specs.{Closing.{name_in}, DirectoryKeys.{AreKeysOf}, KeyedRecords.{keyed_records}, Left.{IsMarkedOpen, open_end}, Reads.{ReadsAsState, ReadsClosed}, Reasons.{IsFirstReason, ReasonAt, reason_at}}
+use Rattle.rio_state.specs.{Closing.{name_in}, DirectoryKeys.{AreKeysOf}, KeyedRecords.{keyed_records}, Left.{IsMarkedOpen, open_end}, Reads.{ReadsAsState}, Reasons.{IsFirstReason, ReasonAt, reason_at}}
 use Rattle.rio_step.specs.{Runs.{saved_of}, Script.{script_of}}
 use Rattle.rio_chain.specs.Segments.{Link}
 use Rattle.rio_close.specs.EndWord.{SaysEnd}
@@ -15,7 +15,7 @@ use Rattle.rio_gen.specs.Generated.{gen_script}
 use Rattle.rio_create.specs.NewFile.{new_file}
 use Rattle.rio_session.specs.{Behind.{SaysPart}, Closes.{IsWellClosed}, Opening.{LeavesFileOrUnclosed, OpensWith, SparesFile, opening_length}}
 use Rattle.rio_session.specs.{Replying.{reply_text}, declared.replies.Replies.{Replies, TheVariants.{Printed, Omitted}}}
-use Rattle.rootio.specs.{Headline.{IsRunDone, IsStopOf, SaidFindRoom, ScriptRun, all_replies, all_texts, end_state, replies, reply_at, states}, Input.{IsPastInput}}
+use Rattle.rootio.specs.{Headline.{IsRunDone, IsStopOf, ReadsAsEnd, SaidFindRoom, ScriptRun, all_replies, all_texts, replies, reply_at, states}, Input.{IsPastInput}}
 use Rattle.rootio.specs.{Generated.{generated_line}, Reading.{takes_input}, Target.{TargetFile}}
 pub use Rattle.rootio.specs.Records.{closed_records, file_run_from, without_pending}
 use Rattle.rootio.specs.declared.status.Status.{Status, TheVariants.{Done, Usage, BadFile, DiskFault, InputFault, NoMemory, InputTooLong, ReadOnly, SayFault}}
@@ -103,7 +103,7 @@ pub record StandsUnsaid (r : ScriptRun) (before : List ℕ) (new : View) : Type 
 -- last state, by the walk and by the key list.
 pub record StandsClosed (r : ScriptRun) (before : List ℕ) (new : View) : Type 0 where
   pub text : SaysPart new (before ++ all_replies r) r.listing
-  pub left : (image said : List ℕ) → Leaves new image said → ReadsAsState image (end_state r) × ReadsClosed image (end_state r)
+  pub left : (image said : List ℕ) → Leaves new image said → ReadsAsEnd r image
 
 -- the image reads as a state of the close: behind all commands and some of the closing saves, without pending rows
 pub record IsOfClose (r : ScriptRun) (image : List ℕ) : Type 0 where
