@@ -20,7 +20,7 @@ use Rattle.rio_step.specs.{Runs.{Marks, saved_of, state_after, states_of_run}, S
 use Rattle.rio_effect.specs.FileRuns.{file_run}
 use Rattle.rootio.specs.{Generated.{line_of_records}, Generating.{EndsGenerated, GeneratedIsStatable, GeneratesAndSays, IsLineOf, SaysLine, SaysSummary, generated_run}}
 use Rattle.rootio.specs.{Headline.{IsClosedWhereListed, IsStopOf, ReadsAsEnd, SaidFindRoom, ScriptRun, end_state}, Records.{closed_records, without_pending}, Script.{HasClosed, StaysOpenBy, session_closed_records, session_run}, Target.{TargetFile}}
-use Rattle.rootio.specs.Writing.{Beginning, BeginsRun, EndsInClose, EndsUnclosed, StandsClosed, StandsUnsaid, records_of, run_of_work}
+use Rattle.rootio.specs.Writing.{Beginning, BeginsRun, EndsInClose, EndsUnclosed, SaysWhole, StandsBetween, StandsClosed, StandsUnsaid, records_of, run_of_work}
 use Rattle.rootio.specs.{Script.{status_of_session}, declared.words.Work.TheVariants.{Generate}}
 use Rattle.rootio.proofs.{ClosedSummaries.{closed_files_sum_up}, Idle.{records_idle}, RunStops.{not_listed}, Scripts.{saved_start}}
 
@@ -91,6 +91,18 @@ module _ (s : SessionState) (entries : ℕ) (links : List Link) (m : State) wher
   without_front : (file text image said : List ℕ) → IsStopOf plain file text image said → IsStopOf run file text image said
   without_front file text image said stop =
       with_front file text image said said 0 stop (not_listed run text image said (omega (arith, ap length (none_said file text image said stop)))) (sym (append-nil said))
+
+  -- what was said before it ended
+  says_alike : (before : List ℕ) (new : View) → SaysWhole plain before new → SaysWhole run before new
+  says_alike before new says = record { j = says.j; commands = says.commands; said = says.said }
+
+  between_alike : (before : List ℕ) (new : View) → StandsBetween plain before new → StandsBetween run before new
+  between_alike before new between = record {
+    says = record { j = between.says.j; commands = between.says.commands; said = between.says.said };
+    state = between.state;
+    state_is = between.state_is;
+    left = between.left;
+  }
 
   -- a file that could not be closed
   in_close : (before : List ℕ) (new : View) → EndsInClose plain before new → EndsInClose run before new
@@ -185,9 +197,10 @@ module _ (v1 v2 : View) (s : SessionState) (entries : ℕ) (ready : IsReady v1 s
     where
       by : (m : State) (text : List ℕ) (stands : StandsFor v1 s m text) (f : SessionFault) → StaysOpenBy StandsUnsaid (session_run Omitted s stands.state.links m (gen_script entries)) text v2 (Err f)
           → (◌≡◌ {A = SessionFault} f SayFault → ⊥) → EndsGenerated (generated_run s entries stands.state.links m) text v2 (Err f)
-      by m text stands HostFault stays none = ⊎_elim (λ marked. inl marked) (λ ends. inr (inl (in_close s entries stands.state.links m text v2 ends))) stays
+      by m text stands HostFault stays none =
+          ⊎_elim (λ stops. inl (stops.0, says_alike s entries stands.state.links m text v2 stops.1)) (λ ends. inr (inl (in_close s entries stands.state.links m text v2 ends))) stays
       by m text stands SayFault stays none = absurd (none refl)
-      by m text stands NoMemory stays none = inl stays
+      by m text stands NoMemory stays none = inl (between_alike s entries stands.state.links m text v2 stays)
 
   -- the line behind the close
   module _ (closed : (m : State) (text : List ℕ) (stands : StandsFor v1 s m text) → HasClosed (session_run Omitted s stands.state.links m (gen_script entries)) stands.state.links stands.file s text v2)
@@ -286,7 +299,7 @@ pub ends_generated : (target : TargetFile) (entries : ℕ) (ran : ScriptRun) (fi
     → EndsGenerated ran before new r → EndsUnclosed (Generate target entries) ran file before old new (status_of_session r)
 ends_generated target entries ran file before old new (Ok x) ends = tt
 ends_generated target entries ran file before old new (Err HostFault) ends =
-    inr (⊎_elim (λ marked. inl (λ image said left. inr (inr (marked image said left)))) (λ closed. inr closed) ends)
+    ⊎_elim (λ stops. inl (inr (λ image said left. inr (inr (stops.0 image said left))), stops.1)) (λ closed. inr closed) ends
 ends_generated target entries ran file before old new (Err SayFault) ends = ends
 ends_generated target entries ran file before old new (Err NoMemory) ends = inr ends
 

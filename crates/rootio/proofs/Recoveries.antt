@@ -16,7 +16,7 @@ use Rattle.rio_session.specs.declared.replies.Replies.TheVariants.{Printed}
 use Rattle.rio_session.proofs.{CloseStates.{holds_closed_file}, Opened.{keeps_own}, Spoken.{front_part, grows_none, grows_whole}}
 use Rattle.rootio.specs.{Headline.{AllFindRoom, IsStopOf, ReadsAsEnd, SaidFindRoom, ScriptRun, all_replies, all_texts, end_state}, Script.{ClosesAndSays, listing_run, session_closed_records}}
 use Rattle.rootio.specs.{Target.{TargetFile}, Writing.{Beginning, BeginsRun, StandsClosed, records_of, run_of_work, without_pending}, declared.words.Work.TheVariants.{Recover}}
-use Rattle.rootio.proofs.{Idle.{none_saved, nothing_left, records_idle}, OrderedKeys.{keys_one}, Scripts.{saved_start}, RunStops.{stop_closing}, Unclosed.{close_open, closes_none, stands_open}, Untouched.{becomes_same, elapses_none}}
+use Rattle.rootio.proofs.{Idle.{none_saved, nothing_left, records_idle}, OrderedKeys.{keys_one}, Scripts.{saved_start, says_none}, RunStops.{end_of_commands, stop_closing}, Unclosed.{close_open, closes_none, reads_between}, Untouched.{becomes_same, elapses_none}}
 
 abbrev some_text : List ℕ → Option (List ℕ)
 some_text l = Some l
@@ -87,7 +87,14 @@ pub no_lines : (v : View) (s : SessionState) (lines : List ℕ) → IsReady v s 
 no_lines v s lines ready = record {
   stops = λ file text m stands. elapses_none v (IsStopOf (listing_run s lines stands.state.links m) file text);
   done = tt;
-  unclosed = λ m text stands. stands_open v v s m text ready stands;
+  unclosed = λ m text stands.
+      let r = listing_run s lines stands.state.links m in
+      record {
+        says = says_none r text v stands.said;
+        state = m;
+        state_is = end_of_commands r ∙ ap Some (sym (state_is s lines stands.state.links m));
+        left = reads_between v v s m text ready stands;
+      };
   told = becomes_same v.holds;
   said = grows_none v.said v.said refl;
   cause = (refl, refl);

@@ -1,5 +1,5 @@
 -- What a stop leaves of a run: between two commands, within one, and within the close.
-use Rattle.std.proofs.Common.{◌≡◌, inl, inr, ℕ, zero, suc, ◌+◌, ◌<◌, ◌≤◌, List, [], ◌∷◌, ◌++◌, length, length-append, length-take, take, drop, get_or, sym, refl, ap, ◌∙◌, arith, append_assoc}
+use Rattle.std.proofs.Common.{◌≡◌, inl, inr, ℕ, zero, suc, ◌+◌, ◌<◌, ◌≤◌, List, [], ◌∷◌, ◌++◌, length, length-append, length-take, take, drop, get_or, Some, sym, refl, ap, ◌∙◌, arith, append_assoc}
 use Rattle.std.proofs.{lemmas.Bool.{cases_lt}, lemmas.List.{append-nil, take_all, take-append-le, take_more}}
 use Rattle.std.specs.List.{slice_get}
 use Rattle.rio_machine.specs.{State.{State}, declared.command.Command.{Command, TheVariants.{Ls}}}
@@ -209,8 +209,14 @@ module _ (r : ScriptRun) (k : ℕ) (c : Command) (next : IsNext r k c) where
 
 -- ---- within the close
 
-replies_whole : (r : ScriptRun) → replies r (length r.commands) ≡ all_replies r
+pub replies_whole : (r : ScriptRun) → replies r (length r.commands) ≡ all_replies r
 replies_whole r = ap (λ cs. printed_of r.replies (said_of r.start cs r.marks)) (take_all (length r.commands) r.commands (omega arith))
+
+-- the state behind all commands
+pub end_of_commands : (r : ScriptRun) → slice_get (states_of_run r.start r.commands r.marks) (length r.commands) ≡ Some (state_after r.start r.commands r.marks)
+end_of_commands r =
+    runs_begin_alike r.start r.commands r.marks (length r.commands) (omega arith)
+    ∙ ap (λ (cs : List Command). Some (state_after r.start cs r.marks)) (take_all (length r.commands) r.commands (omega arith))
 
 pub stop_closing : (r : ScriptRun) (file before image said : List ℕ)
     → ClosesAs (state_after r.start r.commands r.marks) (before ++ all_replies r) image said → IsStopOf r file before image said

@@ -1,5 +1,5 @@
 -- What the verbs that write do: their commands, and what they leave of the file.
-use Rattle.std.specs.Prelude.{◌≡◌, ◌⊎◌, ℕ, ◌+◌, List, [], ◌++◌, length, slice_get, true, Option, Some, None, MatchBool}
+use Rattle.std.specs.Prelude.{◌≡◌, ◌⊎◌, ◌≤◌, ℕ, ◌+◌, List, [], ◌++◌, length, slice_get, true, Option, Some, None, MatchBool}
 use Rattle.rio_head.specs.declared.reason.Reason.{Reason, TheVariants.{NotNew}}
 use Rattle.rio_host.specs.{Host.{Any, Becomes, Elapses, IsQuiet, Leaves, View}, OnlyReads.{OnlyReads}, Source.{Input}}
 use Rattle.rio_key.specs.declared.head.KeyHead.{KeyHead}
@@ -88,6 +88,20 @@ pub record SparesRefused (work : Work) (old new : View) (status : Status) : Type
 abbrev pub LeavesOpen : View → Type 0
 LeavesOpen v = (image said : List ℕ) → Leaves v image said → IsMarkedOpen image
 
+-- The replies of the first commands were said, whole, and nothing else.
+pub record SaysWhole (r : ScriptRun) (before : List ℕ) (new : View) : Type 0 where
+  pub j : ℕ
+  pub commands : j ≤ length r.commands
+  pub said : new.said ≡ Some (before ++ replies r j)
+
+-- The run ended between two commands, whose replies were said up to there: each file that a stop leaves now is marked as open and
+-- reads as the state between them.
+pub record StandsBetween (r : ScriptRun) (before : List ℕ) (new : View) : Type 0 where
+  pub says : SaysWhole r before new
+  pub state : State
+  pub state_is : slice_get (states r) says.j ≡ Some state
+  pub left : (image said : List ℕ) → Leaves new image said → ReadsAsState image (saved_of state) × IsMarkedOpen image
+
 -- A reply could not be said, but for a front of it, behind those of all commands before. What its command does is done: each file
 -- that a stop leaves now is marked as open and reads as the state behind it.
 pub record StandsUnsaid (r : ScriptRun) (before : List ℕ) (new : View) : Type 0 where
@@ -132,17 +146,18 @@ EndsRead (Import target words) r before new = ⊥
 EndsRead (Generate target entries) r before new = StandsClosed r before new
 
 -- How a run ends early. If a reply can't be printed, what its command did stands, and the file isn't closed; if the listing can't be
--- printed, the file is closed. If memory runs out, nothing was written, or each crash image is marked as open. If the disk fails, a crash
--- image is the file of before, isn't made yet or is marked as open; or it is the close that failed, behind all commands. With either
--- fault a generated file may also be closed and not yet read again.
+-- printed, the file is closed. If memory runs out, nothing was written or printed, or the run ended between two commands: each reply before was
+-- printed, and none is lost. If the disk fails, no reply is torn, and a crash image is the file of before, isn't made yet or is marked as
+-- open; or it is the close that failed, behind all commands. With either fault a generated file may also be closed and not yet read again.
 abbrev pub EndsUnclosed : Work → ScriptRun → List ℕ → List ℕ → View → View → Status → Type 0
 EndsUnclosed work r file before old new Done = Unit {0}
 EndsUnclosed work r file before old new Usage = Unit {0}
 EndsUnclosed work r file before old new (BadFile place kind) = Unit {0}
 EndsUnclosed work r file before old new DiskFault =
-    OnlyReads old new ⊎ (LeavesFileOrUnclosed file new ⊎ (EndsInClose r before new ⊎ EndsRead work r before new))
+    ((OnlyReads old new ⊎ LeavesFileOrUnclosed file new) × SaysWhole r before new) ⊎ (EndsInClose r before new ⊎ EndsRead work r before new)
 EndsUnclosed work r file before old new InputFault = Unit {0}
-EndsUnclosed work r file before old new NoMemory = OnlyReads old new ⊎ (LeavesOpen new ⊎ EndsRead work r before new)
+EndsUnclosed work r file before old new NoMemory =
+    (OnlyReads old new × SaysWhole r before new) ⊎ (StandsBetween r before new ⊎ EndsRead work r before new)
 EndsUnclosed work r file before old new InputTooLong = Unit {0}
 EndsUnclosed work r file before old new (ReadOnly place reason) = Unit {0}
 EndsUnclosed work r file before old new SayFault = EndsUnsaid work r before new
