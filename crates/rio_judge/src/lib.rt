@@ -20,7 +20,6 @@ mod get;
 mod judging;
 mod key;
 mod laws;
-mod limit;
 mod put;
 mod row;
 mod stop;
