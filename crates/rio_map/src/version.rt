@@ -13,7 +13,9 @@ ghost use Rattle.rio_map.specs.Versions.{Maps, asked_in, base_found, bases_as, b
 
 use crate::convert::{flat_as, stays};
 use crate::zero::{kind_zero, object_with, zero_of_class};
-use rio_format::{Base, ClassDef, Classes, Kind, Member, Part, Parts, Value, Values, copy, part_with};
+use rio_format::{
+    Base, ClassDef, Classes, Kind, Member, Part, Parts, Value, Values, copy, part_with,
+};
 use rio_model::{MapFault, built_in_version};
 use rio_num::{Boxed, Name};
 use std::alloc::Global;

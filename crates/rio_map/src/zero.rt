@@ -3,7 +3,10 @@ ghost use Rattle.std.specs.Prelude.{◌≡◌, ◌+◌, IfOk, length, replicate}
 ghost use Rattle.rio_format.specs.{Slots.{fields_of}, declared.value.Value.{Object}};
 ghost use Rattle.rio_model.specs.Mapping.{kind_zero, object_zero, parts_zero, single_zero, slot_zero, zero_of_class, zero_version, zero_within};
 
-use rio_format::{Classes, Fields, Kind, Parts, Prim, Slot, SlotKind, Value, Values, fields_of, is_headed, part_with, slot_of};
+use rio_format::{
+    Classes, Fields, Kind, Parts, Prim, Slot, SlotKind, Value, Values, fields_of, is_headed,
+    part_with, slot_of,
+};
 use rio_model::{built_in_version, newest_known};
 use rio_num::{Name, NoMemory};
 use std::alloc::Global;
