@@ -164,7 +164,7 @@ def hit_classes():
 def write_element(buffer, e):
     outer = buffer.begin(e['version'])
     inner = buffer.begin(4)
-    buffer.named(e['name'])
+    buffer.named(e['name'], e.get('title', ''))
     count = e['count']
     buffer.put(i32(e['code']) + i32(e['size']) + i32(count) + i32(1 if count else 0) + i32(count) + i32(0) * 4)
     buffer.put(text(e['type_name']))
@@ -197,83 +197,105 @@ def class_list(start, classes):
 # ---- trees
 
 WIDTHS = dict(B=1, b=1, S=2, s=2, I=4, i=4, L=8, l=8, F=4, D=8, O=1, C=1)
+WRITERS = dict(bool='>?', short='>h', int='>i', Long64_t='>q', double='>d')
+
+
+class Leaf:
+    """A leaf. Its dimension is a number, the name of the leaf that counts it, or None."""
+
+    def __init__(self, name, letter, dimension=None):
+        self.name, self.letter, self.kind, self.version = name, letter, 'TLeaf' + letter.upper(), 101
+        self.counter = dimension if isinstance(dimension, str) else None
+        self.length = dimension if isinstance(dimension, int) else 1
+        self.title = name if dimension is None else f'{name}[{dimension}]'
 
 
 class Branch:
-    """A branch: its leaves as (name, letter, count or counter or None), or the name of its class; and its baskets as
-    (bytes, first entry, place)."""
+    """A branch: its leaves as (name, letter, dimension), or the name of its class; its baskets as (bytes, first entry, place); and
+    functions that write what fBranches and fBaskets have."""
 
     def __init__(self, name, leaves=(), class_name=None, nested=False):
-        self.name, self.leaves, self.class_name, self.nested = name, list(leaves), class_name, nested
-        self.baskets, self.entries = [], 0
+        self.name, self.leaves, self.class_name = name, [Leaf(*it) for it in leaves], class_name
+        self.kind, self.version = ('TBranchElement', 110) if class_name else ('TBranch', 113)
+        self.baskets, self.entries, self.more_baskets, self.held = [], 0, 0, []
+        self.inside = [lambda header: header.branch(Branch('inner'))] if nested else []
 
     def has_offsets(self):
-        return bool(self.class_name) or any(x[1] == 'C' or isinstance(x[2], str) for x in self.leaves)
+        return bool(self.class_name) or any(it.letter == 'C' or it.counter is not None for it in self.leaves)
 
     def title(self):
-        spelled = [n + ('' if d is None else f'[{d}]') + '/' + letter for n, letter, d in self.leaves]
-        return self.class_name or ':'.join(spelled)
+        return self.class_name or ':'.join(f'{it.title}/{it.letter}' for it in self.leaves)
 
 
-def write_leaf(buffer, leaf, words):
-    name, letter, dim = leaf
-    outer = buffer.begin(101)
-    inner = buffer.begin(102)
-    buffer.named(name, name + ('' if dim is None else f'[{dim}]'))
-    fixed = dim if isinstance(dim, int) else 1
-    buffer.put(i32(fixed) + i32(WIDTHS[letter]) + bytes([letter in 'bsil']))
-    buffer.put(u32(words[dim]) if isinstance(dim, str) else u32(0))
-    buffer.end(inner)
-    buffer.end(outer)
+class Header:
+    """Writes the header of a tree, member by member, as the classes describe its objects."""
 
+    def __init__(self, start, classes):
+        self.buffer, self.words, self.places = Buffer(start), {}, []
+        self.classes = {(name, version): elements for name, version, elements, *_ in classes}
 
-def leaf_item(buffer, leaf, words):
-    kind = 'TLeaf' + leaf[1].upper()
-    words[leaf[0]] = buffer.pointer(kind, lambda: write_leaf(buffer, leaf, words))
-    return words[leaf[0]]
+    def members(self, kind, version, values):
+        """An object, with a value for each member's name: a number, a list, a text, or a function that writes it. What has no
+        value is 0."""
+        at = self.buffer.begin(version)
+        for it in self.classes[kind, version]:
+            value, writer = values.get(it['name'], 0), WRITERS.get(it['type_name'].rstrip('*'))
+            if it['name'] == 'TNamed':
+                self.buffer.named(values['name'], values.get('title', ''))
+            elif it['kind'] == 'TStreamerBase':
+                self.members(it['name'], *struct.unpack('>i', it['more']), values)
+            elif callable(value):
+                value()
+            elif isinstance(value, str):
+                self.buffer.put(text(value))
+            elif isinstance(value, list):
+                self.buffer.put(b'\1' + b''.join(struct.pack(writer, n) for n in value))
+            else:
+                self.buffer.put(struct.pack(writer, value))
+        self.buffer.end(at)
 
+    def array(self, write, items):
+        """A function that writes an array of these."""
+        return lambda: self.buffer.array([lambda it=it: write(it) for it in items])
 
-def write_branch(buffer, branch, words):
-    if branch.class_name:
-        outer = buffer.begin(110)
-    at = buffer.begin(113)
-    buffer.named(branch.name, branch.title())
-    count = len(branch.baskets)
-    buffer.put(i32(1000 if branch.has_offsets() else 0) + i32(count) + i32(count + 1) + i64(branch.entries))
-    inner = [lambda: buffer.pointer('TBranch', lambda: write_branch(buffer, Branch('inner'), words))]
-    buffer.array(inner if branch.nested else [])
-    buffer.array([lambda x=x: leaf_item(buffer, x, words) for x in branch.leaves])
-    buffer.array([])
-    for k, put, last in ((0, i32, 0), (1, i64, branch.entries), (2, i64, 0)):
-        buffer.put(b'\1' + b''.join(put(b[k]) for b in branch.baskets) + put(last))
-    buffer.end(at)
-    if branch.class_name:
-        buffer.put(text(branch.class_name) + i32(1))
-        buffer.end(outer)
+    def word(self, word):
+        self.buffer.put(u32(word))
 
+    def leaf(self, leaf):
+        """Other leaves have it as their counter by its name, or as the leaf `#N` of the tree, from 0 on."""
+        values = dict(name=leaf.name, title=leaf.title, fLen=leaf.length, fLenType=WIDTHS.get(leaf.letter, 4),
+                      fIsUnsigned=leaf.letter.islower(), fLeafCount=lambda: self.word(self.words.get(leaf.counter, 0)))
+        word = self.buffer.pointer(leaf.kind, lambda: self.members(leaf.kind, leaf.version, values))
+        self.words[leaf.name] = self.words[f'#{len(self.places)}'] = word
+        self.places.append(word)
 
-def branch_item(buffer, branch, words):
-    kind = 'TBranchElement' if branch.class_name else 'TBranch'
-    return buffer.pointer(kind, lambda: write_branch(buffer, branch, words))
+    def branch(self, branch):
+        lengths, firsts, places = ([it[k] for it in branch.baskets] for k in range(3))
+        values = dict(name=branch.name, title=branch.title(), fEntries=branch.entries,
+                      fEntryOffsetLen=1000 if branch.has_offsets() else 0,
+                      fWriteBasket=len(lengths) + branch.more_baskets, fMaxBaskets=len(lengths) + 1,
+                      fBranches=self.array(lambda it: it(self), branch.inside), fLeaves=self.array(self.leaf, branch.leaves),
+                      fBaskets=self.array(lambda it: it(self), branch.held), fBasketBytes=lengths + [0],
+                      fBasketEntry=firsts + [branch.entries], fBasketSeek=places + [0],
+                      fClassName=branch.class_name or '', fClassVersion=1)
+        self.buffer.pointer(branch.kind, lambda: self.members(branch.kind, branch.version, values))
+
+    def tree(self, name, entries, branches, version=120):
+        values = dict(name=name, fEntries=entries, fBranches=self.array(self.branch, branches),
+                      fLeaves=lambda: self.array(self.word, self.places)())
+        self.members('TTree', version, values)
+        return bytes(self.buffer.data)
 
 
 def tree_header(start, name, entries, branches):
-    buffer, words = Buffer(start), {}
-    at = buffer.begin(120)
-    buffer.named(name)
-    buffer.put(i64(entries))
-    buffer.array([lambda b=b: branch_item(buffer, b, words) for b in branches])
-    leaves = [x[0] for b in branches for x in b.leaves]
-    buffer.array([lambda n=n: buffer.put(u32(words[n])) for n in leaves])
-    buffer.end(at)
-    return bytes(buffer.data)
+    return Header(start, tree_classes()).tree(name, entries, branches)
 
 
 # ---- the file
 
 class File:
     def __init__(self, path, name, large=False):
-        self.out, self.name, self.large, self.heads = open(path, 'wb'), name, large, []
+        self.out, self.name, self.large, self.heads, self.padded = open(path, 'wb'), name, large, [], True
         self.place = 100
         self.open_directory()
 
@@ -283,20 +305,20 @@ class File:
     def key_length(self, tail):
         return 18 + 2 * len(self.wide(0)) + len(tail)
 
-    def head(self, tail, size, cycle, pdir):
-        """The key of a record with so many bytes of data."""
+    def head(self, tail, size, cycle, pdir, shrunk=0):
+        """The key of a record with so many bytes of data, which were so many more before they were compressed."""
         version, length = 1004 if self.large else 4, self.key_length(tail)
-        head = i32(length + size) + u16(version) + u32(size) + u32(1) + u16(length) + u16(cycle)
+        head = i32(length + size) + u16(version) + u32(size + shrunk) + u32(1) + u16(length) + u16(cycle)
         return head + self.wide(self.place) + self.wide(pdir) + tail
 
-    def key(self, kind, name, title, data, cycle=1, more=b'', listed=False, pdir=100):
+    def key(self, kind, name, title, data, cycle=1, more=b'', listed=False, pdir=100, shrunk=0):
         """A record at the next place; gives its length and place."""
         tail = text(kind) + text(name) + text(title) + more
         length = self.key_length(tail)
         if callable(data):
             data = data(length)
-        data += bytes(-(length + len(data)) % 4)
-        head = self.head(tail, len(data), cycle, pdir)
+        data += bytes(-(length + len(data)) % 4 if self.padded else 0)
+        head = self.head(tail, len(data), cycle, pdir, shrunk)
         place = self.place
         self.out.seek(place)
         self.out.write(head + data)
@@ -314,9 +336,11 @@ class File:
         self.name_length = 18 + 2 * len(self.wide(0)) + len(text('TFile') + names) + len(names)
         self.key('TFile', self.name, '', names + self.directory(0, 0), pdir=0)
 
-    def basket(self, tree, branch, entries, first):
-        """A basket of these entries, which the branch then has."""
-        offsets = branch.has_offsets()
+    def basket(self, tree, branch, entries, first, said=None):
+        """A basket of these entries, which the branch then has. `said` has what is said of it in place of what is so: how many
+        entries it has, their size and the bytes of all, how many bytes the record has less in the header, and more before it was
+        compressed."""
+        offsets, said = branch.has_offsets(), said or {}
 
         def data(length):
             got, ends, at = b''.join(entries), [], length
@@ -326,11 +350,12 @@ class File:
             return got + (u32(len(entries) + 1) + b''.join(map(u32, ends + [at])) if offsets else b'')
         version_to_flag = 19
         length = self.key_length(text('TBasket') + text(branch.name) + text(tree)) + version_to_flag
-        last = length + sum(map(len, entries))
-        size = len(entries) if offsets else len(entries[0])
-        more = u16(3) + i32(BASKET_BYTES) + i32(size) + i32(len(entries)) + i32(last) + b'\0'
-        got = self.key('TBasket', branch.name, tree, data, cycle=0, more=more)
-        branch.baskets.append((got[0], first, got[1]))
+        count = said.get('entries', len(entries))
+        size = said.get('size', count if offsets else len(b''.join(entries[:1])))
+        last = length + said.get('used', sum(map(len, entries)))
+        more = u16(3) + i32(BASKET_BYTES) + i32(size) + i32(count) + i32(last) + b'\0'
+        got = self.key('TBasket', branch.name, tree, data, cycle=0, more=more, shrunk=said.get('shrunk', 0))
+        branch.baskets.append((got[0] - said.get('fewer', 0), first, got[1]))
 
     def basket_key(self, end):
         """The key alone of a basket that ends there."""

@@ -18,8 +18,6 @@ mod flags;
 mod laws;
 mod places;
 mod prepared;
-#[cfg(test)]
-mod tests;
 
 pub use filler::Filler;
 pub use flags::{Flags, is_flagged};

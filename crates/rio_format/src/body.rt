@@ -5,8 +5,7 @@ ghost use Rattle.rio_format.specs.{Bodies.{body_of, built_in, by_description, de
 
 use crate::built_in::BuiltIn;
 use crate::lists::ClassLists;
-use crate::Header;
-use crate::{ClassDef, Classes};
+use crate::{ClassDef, Classes, Header};
 use std::marker::Model;
 
 /// What an object has behind its header.

@@ -2,8 +2,8 @@
 ghost use Rattle.std.specs.Prelude.{◌≡◌};
 ghost use Rattle.rio_format.specs.Bodies.{form_of};
 
-use crate::built_in::BuiltIn;
 use crate::Prim;
+use crate::built_in::BuiltIn;
 
 /// How an object of a class begins.
 #[derive(Clone, Copy)]

@@ -46,6 +46,7 @@ mod form;
 mod index;
 mod kind;
 mod laws;
+mod limits;
 mod lists;
 mod longest;
 mod member;
@@ -74,6 +75,7 @@ pub use laws::{
     is_spelled_once, no_base_is_deeper, one_answer, read_is_spelled, read_stays, spelled_is_read,
     written_is_spelled,
 };
+pub use limits::{DEPTH_LIMIT, LENGTH_LIMIT};
 pub use lists::ClassLists;
 pub use longest::longest_list;
 pub use part_list::{PartList, array_object, list_object, part_with, titled_object};

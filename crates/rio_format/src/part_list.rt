@@ -2,8 +2,8 @@
 ghost use Rattle.std.specs.Prelude.{◌≡◌, IfOk};
 ghost use Rattle.rio_format.specs.{Bodies.{part}, WrittenList.{array_object, list_object, plain_object, titled_object}};
 
-use rio_num::{Name, NoMemory};
 use crate::{Part, Parts, Value, Values};
+use rio_num::{Name, NoMemory};
 use std::alloc::Global;
 use std::marker::Model;
 

@@ -11,17 +11,14 @@ ghost use Rattle.rio_step.specs.Refusing.{refused_if};
 ghost use Rattle.rio_judge.specs.Judging.{WorkCanBeDone};
 ghost use Rattle.rio_judge.specs.Stops.{GoesByState, GoesByTests};
 
-use crate::limit::LENGTH_LIMIT;
 use crate::stop::Stop;
 use crate::{NewClass, Work};
+use rio_model::CLASS_LIMIT;
 use rio_info::info_length_with;
 use rio_machine::Refusal;
 use rio_registry::{Registry, is_reserved_name};
-use rio_format::{ClassDef, Classes};
+use rio_format::{ClassDef, Classes, LENGTH_LIMIT};
 use std::alloc::Global;
-
-/// The most classes of a file.
-const CLASS_LIMIT: usize = 4096;
 
 // The names of classes that come with the format are taken.
 fn check_name(name: &[u8]) -> Result<(), Stop>

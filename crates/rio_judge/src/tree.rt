@@ -20,13 +20,12 @@ ghost use Rattle.rio_judge.specs.Stops.{GoesByTests, GoesByTree, tree_tests};
 ghost use Rattle.rio_judge.specs.Trees.{TreeWorkCanBeDone};
 
 use crate::key::is_list_name;
-use crate::limit::{BRANCH_LIMIT, CYCLE_LIMIT, ITEM_LIMIT, LEAF_LIMIT};
 use crate::stop::Stop;
 use crate::{NewRow, NewTree, TreeWork};
 use rio_dir::KeyTable;
 use rio_key::KeyHead;
 use rio_leaf::{BranchDef, BranchDefs, Shape};
-use rio_machine::Refusal;
+use rio_machine::{BRANCH_LIMIT, CYCLE_LIMIT, ITEM_LIMIT, LEAF_LIMIT, Refusal};
 use rio_model::built_in_version;
 use rio_num::Name;
 use rio_tree_table::TreeTable;

@@ -160,7 +160,7 @@ impl Entries {
 /// then Compressed comes; then BadLast at the place of fLast where a number of the head is negative, the entries don't
 /// end within the record, or they can't all have one length; then BadOffsets at the number of offsets or at the first
 /// offset that isn't whole or can't stand. Places count from the first byte.
-#[tactic(auto, unfolding(crate::specs::Entries::entries_in))]
+#[tactic(auto, unfolding(crate::specs::BasketEntries::entries_in))]
 pub fn read_basket(alloc: Global, bytes: &[u8], offsets: bool) -> Result<Entries, BasketFault>
     ensures { GivesUnless OutOfMemory (λ x. x) result (entries_in offsets bytes.now) }
 {

@@ -4,8 +4,7 @@ ghost use Rattle.rio_num.specs.Answers.{GivesUnless};
 ghost use Rattle.rio_key.specs.{LaidBasket.{IsLayoutWithin}, StoredLayout.{ends_within, has_negative, has_one_length, is_multiple, is_sound, layout_by, layout_in, layout_of}};
 ghost use Rattle.rio_key.specs.declared.basket_fault.BasketFault.TheVariants.{NoMemory as OutOfMemory};
 
-use crate::BasketFault;
-use crate::{BasketFront, BasketHead, KeyFault, read_basket_front};
+use crate::{BasketFault, BasketFront, BasketHead, KeyFault, read_basket_front};
 use std::alloc::Global;
 
 /// Where the data of the entries begin and end, and where the record ends, counted from its first byte, and how many

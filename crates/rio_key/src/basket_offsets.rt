@@ -119,7 +119,7 @@ pub(crate) fn check_table(layout: &Layout, bytes: &[u8]) -> Result<(), BasketFau
 }
 
 /// How the entries of a basket are laid out, or its first fault.
-#[tactic(auto, unfolding(crate::specs::Entries::sound_layout_in))]
+#[tactic(auto, unfolding(crate::specs::BasketEntries::sound_layout_in))]
 pub(crate) fn read_sound_layout(
     alloc: Global,
     bytes: &[u8],

@@ -5,12 +5,9 @@ ghost use Rattle.byteorder.specs.Endian.{big_bytes};
 ghost use Rattle.rio_num.specs.Room.{with_more};
 ghost use Rattle.rio_key.specs.{Written.{padded_size}, BasketRecord.{basket_key, basket_key_length}};
 
-use crate::{KeyHead, key_length};
+use crate::{FIRST_PLACE, KeyHead, key_length};
 use rio_num::{Bytes, Name, NoMemory, padded};
 use std::alloc::Global;
-
-/// The place of the directory that all records are in.
-const DIRECTORY: u64 = 100;
 
 /// How many bytes of a basket's key stand behind its title.
 const HEAD_LENGTH: u64 = 19;
@@ -37,7 +34,7 @@ pub(crate) fn key_of(
         keylen: 0,
         cycle: 0,
         seek: place,
-        pdir: DIRECTORY,
+        pdir: FIRST_PLACE,
         class: Name::from_slice(alloc, b"TBasket")?,
         name: Name::from_slice(alloc, branch)?,
         title: Name::from_slice(alloc, tree)?,

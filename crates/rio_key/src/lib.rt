@@ -38,7 +38,7 @@ pub use basket_head::{
 };
 pub use basket_laws::basket_record_is_read;
 pub use fault::{KeyFault, ListFault};
-pub use head::KeyHead;
+pub use head::{FIRST_PLACE, KeyHead};
 pub use laws::{key_in_front, meanings_agree, one_key, one_key_list, written_key_is_spelled};
 pub use list::{Heads, read_heads};
 pub use read::read_key;

@@ -33,7 +33,7 @@ impl StoredBasket {
     ghost use Rattle.rio_key.specs.{BasketEntries.{entries_in}, declared.basket_fault.BasketFault.TheVariants.{NoMemory as OutOfMemory}};
 
     /// The basket that these bytes begin with, with the faults of `read_basket`.
-    #[tactic(auto, unfolding(crate::specs::Entries::entries_in))]
+    #[tactic(auto, unfolding(crate::specs::BasketEntries::entries_in))]
     pub fn read(alloc: Global, bytes: Vec<u8>, offsets: bool) -> Result<StoredBasket, BasketFault>
         ensures { GivesUnless OutOfMemory (λ x. x) result (entries_in offsets bytes.items) }
     {

@@ -8,9 +8,8 @@ mod numbers;
 mod object;
 mod plain;
 
-use crate::read::DEPTH_LIMIT;
 pub use numbers::{pass_number, pass_numbers};
-use rio_format::{Classes, ObjFault, ObjReader};
+use rio_format::{Classes, DEPTH_LIMIT, ObjFault, ObjReader};
 use std::alloc::Global;
 
 /// Passes over the next object of the class, or tells the first fault, as `read_next` would. No value is made.

@@ -7,11 +7,8 @@ ghost use Rattle.rio_read.specs.FirstFault.{BreaksNext, RefusesBreak};
 ghost use Rattle.rio_read.specs.Reading.{Answers, AnswersFront, HasFront, IsRead, IsSpelled, ReadsNext};
 
 use crate::object;
-use rio_format::{Classes, ObjFault, ObjReader, Value};
+use rio_format::{Classes, DEPTH_LIMIT, ObjFault, ObjReader, Value};
 use std::alloc::Global;
-
-/// How deep an object may be.
-pub(crate) const DEPTH_LIMIT: u32 = 256;
 
 /// The object of the class that begins the data, whose first byte has the place `start`, or the first
 /// fault. Bytes behind the object are ignored. An object whose class is not described in its version, or

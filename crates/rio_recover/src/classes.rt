@@ -12,7 +12,7 @@ ghost use Rattle.rio_recover.specs.Keys.{StandsIn, record_end};
 
 use crate::RecoverFault;
 use crate::object::record_bytes;
-use rio_format::{Base, ClassDef, Classes, ObjFault};
+use rio_format::{Base, ClassDef, Classes, LENGTH_LIMIT, ObjFault};
 use rio_decl::is_stated;
 use rio_describe::tree_classes;
 use rio_host::Host;
@@ -29,9 +29,6 @@ pub(crate) struct ListedClasses {
     pub(crate) described: Classes,
     pub(crate) registry: Registry,
 }
-
-// How long the data of a class list may be.
-const LENGTH_LIMIT: u64 = 16_777_216;
 
 fn are_same_bases(a: &[Base], b: &[Base]) -> bool
     ensures { IsTrue result ↔ (a.now ≡ b.now) }

@@ -8,7 +8,8 @@ ghost use Rattle.rio_tree.specs.HeaderLength.{basket_count, header_length, heade
 ghost use Rattle.rio_tree.specs.WrittenLaws.{stated_defs};
 ghost use Rattle.rio_tree.specs.WrittenTree.{tree_value_of};
 
-use crate::place::{DIRECTORY, key_length};
+use crate::place::key_length;
+use rio_key::FIRST_PLACE;
 use rio_chain::{KeyWords, NewRecord, new_record};
 use rio_describe::tree_classes;
 use rio_num::{Bytes, Name, NoMemory};
@@ -69,7 +70,7 @@ fn header_words(
 {
     Ok(KeyWords {
         place,
-        directory: DIRECTORY,
+        directory: FIRST_PLACE,
         datime,
         cycle,
         class: Name::from_slice(alloc, TREE_CLASS)?,
