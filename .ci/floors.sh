@@ -1,5 +1,6 @@
 #!/usr/bin/env bash
 # Each crate uses only crates of lower floors, as docs/architecture.md lists them, and no floor is above the eighth.
+# What sessions and listings stand on leaves a floor between them and the program.
 set -u
 cd "$(dirname "$0")/.." || exit 1
 awk '
@@ -9,6 +10,7 @@ awk '
         name = $1; sub(":", "", name); listed[name] = 1
         if (!(name in floor)) { print name " has no floor in docs/architecture.md"; wrong = 1 }
         else if (floor[name] > 8) { print name " is on floor " floor[name]; wrong = 1 }
+        else if (name ~ /^rio_(session|report)$/ && floor[name] > 6) { print name " is above the sixth floor"; wrong = 1 }
         for (i = 2; i <= NF; i++) if ($i in floor && floor[$i] >= floor[name]) {
             print name " (floor " floor[name] ") uses " $i " (floor " floor[$i] ")"; wrong = 1
         }

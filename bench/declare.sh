@@ -12,7 +12,7 @@ trap 'rm -rf "$folder"' EXIT
 mkdir "$folder/crates"
 (cd "$top" && tar cf - --exclude=out crates crates.txt) | (cd "$folder" && tar xf -)
 [ ! -e "$top/HANDLES" ] || cp "$top/HANDLES" "$folder/"
-echo 'chain_of_classes: rio_num rio_types rio_info rio_registry anyhow' >> "$folder/crates.txt"
+echo 'chain_of_classes: rio_num rio_format rio_info rio_registry anyhow' >> "$folder/crates.txt"
 
 crate=$folder/crates/chain_of_classes
 mkdir -p "$crate/src"
@@ -24,7 +24,7 @@ cat > "$crate/src/main.rt" <<'RT'
 use rio_info::info_length;
 use rio_num::{Name, NoMemory};
 use rio_registry::Registry;
-use rio_types::{Base, Bases, ClassDef, Kind, Member, Members};
+use rio_format::{Base, Bases, ClassDef, Kind, Member, Members};
 use std::alloc::Global;
 use std::env;
 use std::time::Instant;

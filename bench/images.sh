@@ -13,7 +13,7 @@ trap 'rm -rf "$folder"' EXIT
 mkdir "$folder/crates"
 (cd "$top" && tar cf - --exclude=out crates crates.txt) | (cd "$folder" && tar xf -)
 [ ! -e "$top/HANDLES" ] || cp "$top/HANDLES" "$folder/"
-echo 'images: rio_num rio_host rio_key rio_types rio_cmd rio_recover rio_registry rio_report rio_dir rio_session anyhow' >> "$folder/crates.txt"
+echo 'images: rio_num rio_host rio_key rio_format rio_cmd rio_recover rio_registry rio_report rio_dir rio_session anyhow' >> "$folder/crates.txt"
 crate=$folder/crates/images
 mkdir -p "$crate/src"
 cat > "$crate/src/main.rt" <<'RT'

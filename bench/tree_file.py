@@ -164,7 +164,7 @@ def hit_classes():
 def write_element(buffer, e):
     outer = buffer.begin(e['version'])
     inner = buffer.begin(4)
-    buffer.named(e['name'])
+    buffer.named(e['name'], e.get('title', ''))
     count = e['count']
     buffer.put(i32(e['code']) + i32(e['size']) + i32(count) + i32(1 if count else 0) + i32(count) + i32(0) * 4)
     buffer.put(text(e['type_name']))

@@ -93,6 +93,9 @@ impl Chain {
         if self.end > limit {
             return Err(full);
         }
+        if lengths.is_empty() {
+            return Ok(Places::new(lengths.allocator()));
+        }
         let mut gaps = self.gaps.copy()?;
         match places_within(
             lengths.allocator(),

@@ -17,8 +17,6 @@ mod known;
 mod leaves;
 mod lines;
 mod script;
-#[cfg(test)]
-mod tests;
 mod tree;
 
 pub use import_words::{ImportWords, imports_are_stated, read_gen_words, read_import_words};

@@ -8,7 +8,7 @@ use crate::command::take_keyword;
 use rio_machine::Command;
 use rio_num::Name;
 use rio_token::{TextFault, Tokens};
-use rio_types::Base;
+use rio_format::Base;
 use rio_valtext::take_values;
 use std::alloc::Global;
 

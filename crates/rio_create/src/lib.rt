@@ -16,6 +16,3 @@ mod making;
 pub use fault::CreateFault;
 pub use laws::new_file_is_read;
 pub use making::{Created, create};
-
-#[cfg(test)]
-mod tests;

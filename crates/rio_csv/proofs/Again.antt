@@ -12,9 +12,9 @@ use Rattle.rio_model.proofs.ReadWords.{eight_value, four_value, not_empty}
 use Rattle.rio_token.specs.{Laws.{IsNumber}, Words.{bits_of, decimal, number_of}, declared.words.Bits.{Bits, TheVariants.{Four, Eight}}}
 use Rattle.rio_token.proofs.DecimalLaws.{integers_are_read}
 use Rattle.rio_model.proofs.ValueTextLaws.{part_folded, printed_rolled}
-use Rattle.rio_value.specs.{Accessors.{layer_text_bytes}, declared.value.Part.{Part}}
-use Rattle.rio_value.specs.declared.value.Value.{Value, Int, Bits32, Bits64, Bool as Truthful, Text as Texted, map-Value, out-Value, out-roll-Value, roll-Value, TheOpen.{Value-F}, TheVariants.{rolls-Int, rolls-Bits32, rolls-Bits64, rolls-Bool, rolls-Text}}
-use Rattle.rio_value.specs.declared.value.Value.TheOpen as layer
+use Rattle.rio_format.specs.{Accessors.{layer_text_bytes}, declared.value.Part.{Part}}
+use Rattle.rio_format.specs.declared.value.Value.{Value, Int, Bits32, Bits64, Bool as Truthful, Text as Texted, map-Value, out-Value, out-roll-Value, roll-Value, TheOpen.{Value-F}, TheVariants.{rolls-Int, rolls-Bits32, rolls-Bits64, rolls-Bool, rolls-Text}}
+use Rattle.rio_format.specs.declared.value.Value.TheOpen as layer
 
 -- ---- fields
 

@@ -7,7 +7,7 @@ use Rattle.rio_leaf.specs.declared.branch.Shape.{Shape, TheVariants.{Leaves, Cla
 use Rattle.rio_leaf.specs.declared.leaf.Leaf.{Leaf}
 use Rattle.rio_machine.specs.Rows.{columns_fit, columns_of, shape_columns}
 use Rattle.rio_num.specs.Word.{is_name_text}
-use Rattle.rio_types.specs.declared.class.ClassDef.{ClassDef}
+use Rattle.rio_format.specs.declared.class.ClassDef.{ClassDef}
 
 value_missing : (classes : List ClassDef) (before : List Leaf) (shape : Shape) (bs : List BranchDef) → is_stated_shape before shape ≡ true
     → columns_fit classes (shape_columns shape ++ columns_of bs) [] [] ≡ false

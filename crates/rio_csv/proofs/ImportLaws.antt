@@ -8,7 +8,7 @@ use Rattle.rio_csv.specs.Unread.{TakesFirst}
 use Rattle.rio_csv.specs.declared.import.NextCommand.{NextCommand, TheVariants.{Tree as TreeNext, Row as RowNext, Save as SaveNext}}
 use Rattle.rio_leaf.specs.declared.branch.BranchDef.{BranchDef}
 use Rattle.rio_machine.specs.declared.command.Command.{Command, TheVariants.{Tree as MakeTree, Fill, Save}}
-use Rattle.rio_value.specs.declared.value.Value.{Value}
+use Rattle.rio_format.specs.declared.value.Value.{Value}
 
 -- ---- how many rows there are since the last save
 

@@ -7,7 +7,7 @@ use Rattle.csv.specs.declared.parser.State.{State}
 use Rattle.csv.proofs.ReadFacts.{rows-end, rows-more}
 use Rattle.rio_csv.specs.{Rows.{row_in}, Unread.{IsBetween, ReadsRecords, TakesFirst, TakesRecord, TextReader, records_left, records_of, rows_left, text_left}}
 use Rattle.rio_csv.specs.declared.reader.Progress.TheVariants.{Reading}
-use Rattle.rio_value.specs.declared.value.Value.{Value}
+use Rattle.rio_format.specs.declared.value.Value.{Value}
 use Rattle.rio_csv.proofs.RecordLaws.{takes}
 
 -- more turns than bytes make no difference

@@ -4,7 +4,7 @@ use Rattle.std.specs.Option.{option_and_then, option_map}
 use Rattle.std.proofs.lemmas.List.{append-nil}
 use Rattle.csv.specs.Records.{field_at}
 use Rattle.rio_csv.specs.{Fields.{value_in_field}, Rows.{values_in}}
-use Rattle.rio_value.specs.declared.value.Value.{Value}
+use Rattle.rio_format.specs.declared.value.Value.{Value}
 
 -- more values behind these
 abbrev pub with_front : {A : Type 0} → List A → Option (List A) → Option (List A)

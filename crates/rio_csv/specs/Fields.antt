@@ -3,8 +3,7 @@ use Rattle.std.specs.{Prelude.{ℕ, List, [], ◌∷◌, codes, Option, Some, No
 use Rattle.rio_csv.specs.declared.field.FieldKind.{FieldKind, TheVariants.{Number, Truth, FourBytes, EightBytes, Text}}
 use Rattle.rio_model.specs.ValueText.{text_of_value}
 use Rattle.rio_token.specs.{declared.words.Bits.{Bits, TheVariants.{Four, Eight}}, Words.{bits_of, number_of}}
-use Rattle.rio_value.specs.Accessors.{text_bytes_in}
-use Rattle.rio_value.specs.declared.value.Value.{Value, Int, Bits32, Bits64, Bool as Truthful, Text as Texted}
+use Rattle.rio_format.specs.{Accessors.{text_bytes_in}, declared.value.Value.{Value, Int, Bits32, Bits64, Bool as Truthful, Text as Texted}}
 
 -- ---- written
 

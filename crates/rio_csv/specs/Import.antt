@@ -4,7 +4,7 @@ use Rattle.rio_csv.specs.Rows.{rows_in}
 use Rattle.rio_csv.specs.declared.import.NextCommand.{NextCommand, TheVariants.{Tree as TreeNext, Row as RowNext, Save as SaveNext, Failed}}
 use Rattle.rio_leaf.specs.declared.branch.BranchDef.{BranchDef}
 use Rattle.rio_machine.specs.declared.command.Command.{Command, TheVariants.{Tree as MakeTree, Fill, Save}}
-use Rattle.rio_value.specs.declared.value.Value.{Value}
+use Rattle.rio_format.specs.declared.value.Value.{Value}
 
 -- whether the tree is saved after so many rows: after each `every` of them, and never where that is 0
 abbrev pub is_save_due : ℕ → ℕ → Bool

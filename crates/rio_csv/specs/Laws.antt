@@ -4,9 +4,8 @@ use Rattle.csv.specs.Reading.{strip_bom}
 use Rattle.rio_csv.specs.{Fields.{field_kind}, Rows.{letters_of, line_of, rows_in}, declared.field.FieldKind.{FieldKind, TheVariants.{Number, Truth, FourBytes, EightBytes, Text}}}
 use Rattle.rio_leaf.specs.{Stated.{are_stated_branches}, declared.branch.BranchDef.{BranchDef}}
 use Rattle.rio_machine.specs.Rows.{row_fits}
-use Rattle.rio_types.specs.declared.class.ClassDef.{ClassDef}
+use Rattle.rio_format.specs.{declared.class.ClassDef.{ClassDef}, declared.value.Value.{Value, Int, Bits32, Bits64, Bool as Truthful, Text as Texted}}
 use Rattle.rio_token.specs.Laws.{IsNumber}
-use Rattle.rio_value.specs.declared.value.Value.{Value, Int, Bits32, Bits64, Bool as Truthful, Text as Texted}
 
 -- a value that fields of the kind state
 abbrev pub IsOfKind : FieldKind → Value → Type 0

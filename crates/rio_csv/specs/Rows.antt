@@ -4,7 +4,7 @@ use Rattle.std.specs.{Prelude.{ℕ, List, [], ◌∷◌, map, Option, Some, None
 use Rattle.csv.specs.{Reading.{default_config, records, strip_bom}, Writing.{default_writer, row_text}}
 use Rattle.rio_csv.specs.Fields.{field_of, value_in_field}
 use Rattle.rio_leaf.specs.{declared.branch.BranchDef.{BranchDef}, declared.branch.Shape.{Shape, TheVariants.{Leaves, Class}}}
-use Rattle.rio_value.specs.declared.value.Value.{Value}
+use Rattle.rio_format.specs.declared.value.Value.{Value}
 
 -- the line of a row
 abbrev pub line_of : List Value → List ℕ

@@ -7,7 +7,7 @@ use Rattle.csv.specs.declared.reader.Reader.{Reader}
 use Rattle.csv.specs.declared.reader.Trim.TheVariants.{None as NoTrim}
 use Rattle.rio_csv.specs.Rows.{row_in}
 use Rattle.rio_csv.specs.declared.reader.Progress.{Progress, TheVariants.{Reading, Ended, Failed}}
-use Rattle.rio_value.specs.declared.value.Value.{Value}
+use Rattle.rio_format.specs.declared.value.Value.{Value}
 
 -- ---- records
 

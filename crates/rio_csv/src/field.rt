@@ -4,7 +4,7 @@ ghost use Rattle.rio_csv.specs.Fields.{field_kind, is_number_letter, truth_in, v
 
 use rio_num::{Name, NoMemory};
 use rio_token::{Bits, parse_bits, parse_number};
-use rio_value::Value;
+use rio_format::Value;
 use std::alloc::Global;
 
 /// What the fields of a leaf spell.

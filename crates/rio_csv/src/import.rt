@@ -3,13 +3,13 @@ ghost use Rattle.std.specs.Prelude.{◌≡◌, ◌+◌, ℕ, List, None, Some, I
 ghost use Rattle.rio_csv.specs.Import.{IsSince, import_script, is_save_due, next_behind, row_commands};
 ghost use Rattle.rio_csv.specs.Unread.{TakesFirst};
 ghost use Rattle.rio_machine.specs.declared.command.Command.TheVariants.{Fill as FillOf, Save as SaveOf, Tree as TreeOf};
-ghost use Rattle.rio_value.specs.declared.value.Value.{Value as Field};
+ghost use Rattle.rio_format.specs.declared.value.Value.{Value as Field};
 
 use crate::reader::RowReader;
 use rio_leaf::BranchDefs;
 use rio_machine::Command;
 use rio_num::{Name, NoMemory};
-use rio_value::Values;
+use rio_format::Values;
 use std::alloc::Global;
 use std::marker::Model;
 
@@ -43,7 +43,7 @@ pub struct ImportScript<'a> {
 impl<'a> Model for ImportScript<'a> {
     ghost use Rattle.std.specs.Coded.{codes};
     ghost use Rattle.std.specs.Prelude.{List, Option};
-    ghost use Rattle.rio_value.specs.contracts.value.Value as values;
+    ghost use Rattle.rio_format.specs.contracts.value.Value as values;
     ghost use Rattle.rio_csv.specs.Import.{HasRows, IsSince, commands_left};
     ghost use Rattle.rio_machine.specs.declared.command.Command.{Command as ScriptCommand};
 

@@ -21,6 +21,3 @@ pub use import::{ImportScript, import_script};
 pub use laws::{bad_rows_do_not_fit, printed_rows_are_read};
 pub use print::print_row;
 pub use reader::{RowReader, read_rows};
-
-#[cfg(test)]
-mod tests;

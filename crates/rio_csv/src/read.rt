@@ -7,7 +7,7 @@ use crate::field::value_in_field;
 use csv::ByteRecord;
 use rio_leaf::{BranchDef, Leaf, Shape};
 use rio_num::{Name, NoMemory};
-use rio_value::Values;
+use rio_format::Values;
 use std::alloc::Global;
 
 fn push_leaves(leaves: &[Leaf], letters: &mut Name) -> Result<(), NoMemory>

@@ -9,7 +9,7 @@ use crate::read::{letters_of, row_in};
 use csv::{ByteRecord, Error, Reader, ReaderBuilder};
 use rio_leaf::BranchDef;
 use rio_num::{Name, NoMemory};
-use rio_value::{Rows, Values};
+use rio_format::{Rows, Values};
 use std::alloc::Global;
 use std::marker::Model;
 
@@ -38,8 +38,8 @@ pub struct RowReader<'a> {
 impl<'a> Model for RowReader<'a> {
     ghost use Rattle.std.specs.Coded.{codes};
     ghost use Rattle.std.specs.Prelude.{List, Option};
-    ghost use Rattle.rio_value.specs.contracts.value.Value as values;
-    ghost use Rattle.rio_value.specs.declared.value.Value.{Value as Field};
+    ghost use Rattle.rio_format.specs.contracts.value.Value as values;
+    ghost use Rattle.rio_format.specs.declared.value.Value.{Value as Field};
     ghost use Rattle.rio_csv.specs.Unread.{IsAtRow, rows_left};
 
     ghost Value = { Option (List (List Field)) };

@@ -4,8 +4,7 @@ use Rattle.std.proofs.{lemmas.Bool.{and_parts, false_from_ne_true, not-true}, le
 use Rattle.std.specs.List.{list_any}
 use Rattle.rio_num.specs.Word.{is_among, is_name_text}
 use Rattle.rio_num.proofs.Cases.{or_turned}
-use Rattle.rio_types.specs.declared.class.Member.{Member}
-use Rattle.rio_types.specs.declared.kind.Kind.{Kind, TheVariants.{Plain, Counter, Fixed, Counted, Text, Inline, Pointer, Other}}
+use Rattle.rio_format.specs.{declared.class.Member.{Member}, declared.kind.Kind.{Kind, TheVariants.{Plain, Counter, Fixed, Counted, Text, Inline, Pointer, Other}}}
 use Rattle.rio_model.specs.ClassGrammar.{counts_by, has_member, is_counted_by, is_i32_of}
 use Rattle.rio_model.specs.Stated.{are_stated_members, has_counter, is_stated_kind, is_stated_member}
 use Rattle.rio_model.proofs.ReadClasses.{Known, known_more}

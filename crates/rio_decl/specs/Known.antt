@@ -1,8 +1,7 @@
 -- The names that are kept beside members and bases, so that no look-up goes through these.
 use Rattle.std.specs.Prelude.{◌≡◌, ℕ, List, length, nat_le, Bool, true, false, ◌==◌, ◌&&◌, not}
 use Rattle.rio_num.specs.Word.{is_among, is_name_text}
-use Rattle.rio_types.specs.{declared.class.Base.{Base}, declared.class.Member.{Member}}
-use Rattle.rio_types.specs.declared.kind.Kind.{Kind, TheVariants.{Plain, Counter, Fixed, Counted, Text, Inline, Pointer, Other}}
+use Rattle.rio_format.specs.{declared.class.Base.{Base}, declared.class.Member.{Member}, declared.kind.Kind.{Kind, TheVariants.{Plain, Counter, Fixed, Counted, Text, Inline, Pointer, Other}}}
 use Rattle.rio_model.specs.{ClassGrammar.{has_base_named, has_i32, has_member, is_counted_by, is_i32_of}, Stated.{has_counter, is_class_word}}
 
 -- the names of the members, and of those that may count

@@ -6,7 +6,7 @@ ghost use Rattle.rio_model.specs.ClassGrammar.{counts_by};
 
 use crate::read_kind::may_count;
 use rio_num::{Name, Names, NoMemory};
-use rio_types::{Base, Bases, Kind, Member, Members};
+use rio_format::{Base, Bases, Kind, Member, Members};
 use std::alloc::Global;
 use std::marker::Model;
 
@@ -52,7 +52,7 @@ pub(crate) struct KnownMembers<'a> {
 impl<'a> Model for KnownMembers<'a> {
     ghost use Rattle.std.specs.Prelude.{List};
     ghost use Rattle.rio_decl.specs.Known.{KnowsMembers};
-    ghost use Rattle.rio_types.specs.declared.class.Member.{Member};
+    ghost use Rattle.rio_format.specs.declared.class.Member.{Member};
 
     ghost Value = { List Member };
 
@@ -141,7 +141,7 @@ pub(crate) struct KnownBases<'a> {
 impl<'a> Model for KnownBases<'a> {
     ghost use Rattle.std.specs.Prelude.{List};
     ghost use Rattle.rio_decl.specs.Known.{KnowsBases};
-    ghost use Rattle.rio_types.specs.declared.class.Base.{Base};
+    ghost use Rattle.rio_format.specs.declared.class.Base.{Base};
 
     ghost Value = { List Base };
 

@@ -3,9 +3,8 @@ ghost use Rattle.std.specs.Prelude.{◌≡◌, ◌<◌, ◌^◌, List, length, I
 ghost use Rattle.rio_num.specs.Reading.{Takes};
 ghost use Rattle.rio_token.specs.Reading.{AnswersText, Reads, TakesInMemory, list_at, more_at, some_at, word_that_at};
 ghost use Rattle.rio_token.specs.Marks.{closing_brace, opening_brace};
-ghost use Rattle.rio_format.specs.Bodies.{member};
+ghost use Rattle.rio_format.specs.{Bodies.{member}, declared.class.Member.{Member}};
 ghost use Rattle.rio_model.specs.ClassGrammar.{base, base_at, bases_at, class_at, class_in, counting_kind, is_new_base, is_new_member, member_at, with_counters, with_sum};
-ghost use Rattle.rio_types.specs.declared.class.Member.{Member};
 ghost use Rattle.rio_decl.specs.Known.{KnowsCounters};
 
 use crate::checksum;
@@ -13,7 +12,7 @@ use crate::known::{KnownBases, KnownMembers, NewMember, counters_of};
 use crate::read_kind::{may_count, read_kind};
 use rio_num::{Name, Names, NoMemory, is_name};
 use rio_token::{TextFault, Tokens};
-use rio_types::{Base, Bases, ClassDef, Kind, Member, Members};
+use rio_format::{Base, Bases, ClassDef, Kind, Member, Members};
 use std::alloc::Global;
 
 /// The class that the text declares from `place` on, where the word `class` stands, up to its end. Its

@@ -6,7 +6,7 @@ ghost use Rattle.rio_model.specs.ClassGrammar.{dimension_at, dimension_of, is_i3
 use crate::known::KnownMembers;
 use rio_num::{Name, NoMemory};
 use rio_token::{TextFault, Tokens, parse_num_between};
-use rio_types::{Kind, Prim};
+use rio_format::{Kind, Prim};
 use std::alloc::Global;
 
 /// The kind of single values that a word names.

@@ -1,9 +1,7 @@
 //! Whether a declaration can give a class.
 ghost use Rattle.std.specs.Prelude.{◌≡◌, ◌++◌, List, [], ◌∷◌, ◌&&◌, not, IfOk, OnOk};
 ghost use Rattle.rio_num.specs.Word.{is_among, is_name_text};
-ghost use Rattle.rio_types.specs.declared.class.Base.{Base};
-ghost use Rattle.rio_types.specs.declared.class.Member.{Member};
-ghost use Rattle.rio_types.specs.Members.{is_counter};
+ghost use Rattle.rio_format.specs.{declared.class.Base.{Base}, declared.class.Member.{Member}, Members.{is_counter}};
 ghost use Rattle.rio_model.specs.Stated.{are_stated_bases, are_stated_members, has_stated_parts, is_class_version, is_class_word, is_stated_base, is_stated_class};
 ghost use Rattle.rio_decl.specs.Known.{KnowsBases, KnowsPassed, is_known_kind, is_known_member};
 
@@ -11,7 +9,7 @@ use crate::checksum;
 use crate::known::counters_of;
 use crate::read_kind::{is_i32_primitive, primitive};
 use rio_num::{Names, NoMemory, is_name};
-use rio_types::{Base, ClassDef, Kind, Member};
+use rio_format::{Base, ClassDef, Kind, Member};
 use std::alloc::Global;
 
 fn is_counter_kind(kind: &Kind) -> bool

@@ -5,7 +5,7 @@ ghost use Rattle.rio_model.specs.ClassGrammar.{checksum_of, summed};
 
 use crate::print_class;
 use rio_num::{Bytes, NoMemory};
-use rio_types::ClassDef;
+use rio_format::ClassDef;
 use std::alloc::Global;
 
 // The checksum with one more byte of the text.

@@ -4,8 +4,7 @@ use Rattle.std.proofs.lemmas.List.{append-nil, map-append, take_more, Elements.{
 use Rattle.std.proofs.lemmas.Bool.{and_parts, cond_both, or_left, or_right, Decides.{Decides-int_eq}}
 use Rattle.std.specs.{Prelude.{ℤ, codes, is_some}, Cmp.Lexicographic.{same_text}, List.{All, list_any}, Option.{option_map}, Ordering.{int_eq}, Str.{bytes_eq}}
 use Rattle.rio_num.proofs.Cases.{any_weaker, both_or_none, either}
-use Rattle.rio_types.specs.{Classes.{find_in}, declared.class.Base.{Base}, declared.class.ClassDef.{ClassDef}}
-use Rattle.rio_format.specs.{Bases.{visit_bases}, Bodies.{Body, described, built_in, form_of, headed_classes}}
+use Rattle.rio_format.specs.{Classes.{find_in}, declared.class.Base.{Base}, declared.class.ClassDef.{ClassDef}, Bases.{visit_bases}, Bodies.{Body, described, built_in, form_of, headed_classes}}
 use Rattle.rio_format.specs.{Slots.{body_bases, declared_body, has_base, headed_body, is_headed}, Visits.{base_of, is_visited, same_base, with_visit}}
 use Rattle.rio_format.proofs.{BaseDepth.{first_of_both, no_base_is_deeper}, BuiltInLaws.{of_body}, BaseLaws.{same_itself, visited_longer}}
 use Rattle.rio_describe.specs.Heirs.{AreHeirs, AreTheHeirs, IsTaken, Judged, built_in_bases, candidates_of, class_base, has_reaching, is_heir}

@@ -1,7 +1,6 @@
 -- The classes of elements: their names, the versions in which they are written, and what they add.
 use Rattle.std.specs.Prelude.{ℕ, ℤ, pos, List, [], ◌∷◌, codes}
-use Rattle.rio_value.specs.{declared.value.Part.{Part}, declared.value.Value.{Int}}
-use Rattle.rio_format.specs.{Bodies.{part}, WrittenElements.{count_parts}}
+use Rattle.rio_format.specs.{declared.value.Part.{Part}, declared.value.Value.{Int}, Bodies.{part}, WrittenElements.{count_parts}}
 use Rattle.rio_describe.specs.declared.element.ElementClass.{ElementClass, TheVariants.{Base, BasicType, BasicPointer, Text, Object, ObjectAny, ObjectPointer, ObjectAnyPointer}}
 
 abbrev pub element_class_name : ElementClass → List ℕ

@@ -1,7 +1,6 @@
 -- The classes that have a TObject among their bases, and how they are found.
 use Rattle.std.specs.{Prelude.{◌≡◌, ℕ, ◌+◌, ℤ, List, ◌++◌, length, map, codes, Bool, true, ◌||◌}, List.{All, list_any}, Str.{bytes_eq}}
-use Rattle.rio_types.specs.{declared.class.Base.{Base}, declared.class.ClassDef.{ClassDef}}
-use Rattle.rio_format.specs.{Bases.{visit_bases}, Bodies.{headed_classes, row_of}, declared.built_in.BuiltIn.{BuiltIn}, Slots.{has_base}}
+use Rattle.rio_format.specs.{declared.class.Base.{Base}, declared.class.ClassDef.{ClassDef}, Bases.{visit_bases}, Bodies.{headed_classes, row_of}, declared.built_in.BuiltIn.{BuiltIn}, Slots.{has_base}}
 use Rattle.rio_format.specs.Visits.{base_of, is_visited}
 
 -- the class in the version has a TObject among its bases, at any depth

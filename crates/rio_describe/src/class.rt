@@ -1,10 +1,9 @@
 //! Classes with one base.
 ghost use Rattle.std.specs.Prelude.{◌≡◌, [], ◌∷◌, ◌++◌, IfOk, OnOk};
-ghost use Rattle.rio_format.specs.Bodies.{member};
-ghost use Rattle.rio_format.specs.Descriptions.{describing, named_base};
+ghost use Rattle.rio_format.specs.{Bodies.{member}, Descriptions.{describing, named_base}};
 
 use rio_num::{Name, NoMemory};
-use rio_types::{Base, Bases, ClassDef, Kind, Member, Members};
+use rio_format::{Base, Bases, ClassDef, Kind, Member, Members};
 use std::alloc::Global;
 
 /// A class with one base.

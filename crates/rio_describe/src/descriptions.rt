@@ -4,7 +4,7 @@ ghost use Rattle.rio_format.specs.Descriptions.{bare_element, base_element_class
 
 use crate::class::{describing, named_base, push};
 use rio_num::{Name, NoMemory};
-use rio_types::{Base, ClassDef, Classes, Kind, Members, Prim};
+use rio_format::{Base, ClassDef, Classes, Kind, Members, Prim};
 use std::alloc::Global;
 
 fn info_class(alloc: Global) -> Result<ClassDef, NoMemory>

@@ -1,5 +1,5 @@
 //! What is written for a base or a member of a class.
-use rio_types::ClassDef;
+use rio_format::ClassDef;
 use std::marker::Model;
 
 /// What is written for a base or a member of a class: an object of a class of elements. Contracts see it as it is
@@ -23,7 +23,7 @@ pub struct Element<'a> {
 impl<'a> Model for Element<'a> {
     ghost use Rattle.std.specs.Coded.{codes};
     ghost use Rattle.std.specs.Option.{option_map_or, unwrap_or};
-    ghost use Rattle.rio_value.specs.contracts.value.Value as values;
+    ghost use Rattle.rio_format.specs.contracts.value.Value as values;
     ghost use Rattle.rio_format.specs.WrittenElements.{WrittenElement};
 
     ghost Value = { WrittenElement };

@@ -1,14 +1,10 @@
 //! Class lists of which it is known which classes have a TObject among their bases.
 ghost use Rattle.std.specs.Prelude.{◌≡◌, ◌∷◌, [], ◌++◌, is_some, map, IfOk, OnOk};
-ghost use Rattle.rio_format.specs.Bases.{visit_bases};
-ghost use Rattle.rio_format.specs.Bodies.{built_in};
-ghost use Rattle.rio_format.specs.Lists.{listed};
-ghost use Rattle.rio_format.specs.Visits.{base_of};
+ghost use Rattle.rio_format.specs.{Bases.{visit_bases}, Bodies.{built_in}, Lists.{listed}, Visits.{base_of}};
 ghost use Rattle.rio_describe.specs.Heirs.{AreTheHeirs, Judged, built_in_base, built_in_bases, candidates_of, class_base, has_reaching, is_heir};
 
-use rio_format::{BaseSet, BuiltIn, ClassLists, headed_version, is_headed};
+use rio_format::{Base, BaseSet, BuiltIn, ClassDef, ClassLists, Classes, headed_version, is_headed};
 use rio_num::NoMemory;
-use rio_types::{Base, ClassDef, Classes};
 use std::alloc::Global;
 use std::marker::Model;
 
@@ -21,8 +17,7 @@ pub struct JudgedLists<'a> {
 }
 
 impl<'a> Model for JudgedLists<'a> {
-    ghost use Rattle.rio_format.specs.Lists.{listed};
-    ghost use Rattle.rio_format.specs.declared.lists.ClassLists.{ClassLists};
+    ghost use Rattle.rio_format.specs.{Lists.{listed}, declared.lists.ClassLists.{ClassLists}};
     ghost use Rattle.rio_describe.specs.Heirs.{AreTheHeirs};
 
     ghost Value = { ClassLists };

@@ -1,7 +1,6 @@
 //! Elements of the bases and members of a class.
 ghost use Rattle.std.specs.Prelude.{◌≡◌};
-ghost use Rattle.rio_format.specs.Lists.{listed};
-ghost use Rattle.rio_format.specs.WrittenElements.{base_code, base_element, inline_element, kind_element, member_element, pointer_element, text_element};
+ghost use Rattle.rio_format.specs.{Lists.{listed}, WrittenElements.{base_code, base_element, inline_element, kind_element, member_element, pointer_element, text_element}};
 
 use crate::element::{Element, ElementClass, TypeName};
 use crate::judged::JudgedLists;
@@ -9,7 +8,7 @@ use crate::numbers::{
     basic_element, counted_element, counter_element, fixed_element, plain_element,
 };
 use crate::reach::reaches_object;
-use rio_types::{Base, ClassDef, Kind, Member};
+use rio_format::{Base, ClassDef, Kind, Member};
 
 // ---- bases
 

@@ -1,11 +1,9 @@
 //! Elements of numbers, single ones and arrays of them.
 ghost use Rattle.std.specs.Prelude.{◌≡◌, ◌*◌};
-ghost use Rattle.rio_format.specs.Prims.{width_of};
-ghost use Rattle.rio_format.specs.WrittenElements.{basic_element, counted_element, counter_element, fixed_element, plain_element, primitive_code, primitive_name};
+ghost use Rattle.rio_format.specs.{Prims.{width_of}, WrittenElements.{basic_element, counted_element, counter_element, fixed_element, plain_element, primitive_code, primitive_name}};
 
 use crate::element::{Element, ElementClass, TypeName};
-use rio_format::width_of;
-use rio_types::{ClassDef, Prim};
+use rio_format::{ClassDef, Prim, width_of};
 
 // The code of single values.
 fn primitive_code(of: Prim) -> u8

@@ -1,7 +1,6 @@
 //! Which classes have a TObject among their bases.
 ghost use Rattle.std.specs.Prelude.{◌≡◌};
-ghost use Rattle.rio_format.specs.Lists.{listed};
-ghost use Rattle.rio_format.specs.WrittenElements.{built_in_or_newest, reaches_object};
+ghost use Rattle.rio_format.specs.{Lists.{listed}, WrittenElements.{built_in_or_newest, reaches_object}};
 
 use crate::judged::JudgedLists;
 use rio_format::{ClassLists, headed_version};

@@ -4,8 +4,7 @@ use Rattle.std.proofs.lemmas.Bool.{le-ltb, ltb-false, eq-eqb, ne_eqb, eqb-true, 
 use Rattle.std.specs.Int.{w32, cast_unsigned}
 use Rattle.rio_num.specs.{Meanings.{Reading, Standing}, Reading.{◌>>=◌}, Plain.{IsSpelledIn, value_of}}
 use Rattle.rio_num.proofs.{ReadLaws.{IsBytes, IsBytes-drop, IsBytes-take, bind_is, bind_ok, guard_ok, ok_is}, Plain.{standing, value_ok}}
-use Rattle.rio_key.specs.{declared.head.KeyHead.{KeyHead}, declared.fault.ListFault.{ListFault}, Key.{SpellsKey, key_at, key_head_at}}
-use Rattle.rio_key.specs.KeyList.{SpellsKeyList, key_list_at}
+use Rattle.rio_key.specs.{declared.head.KeyHead.{KeyHead}, declared.fault.ListFault.{ListFault}, Key.{SpellsKey, key_at, key_head_at}, KeyList.{SpellsKeyList, key_list_at}}
 use Rattle.rio_key.proofs.{KeyAgain.{key_again, key_found}, KeyListLaws.{key_list_again, key_list_found}}
 use Rattle.rio_head.specs.{declared.head.FileHead.{FileHead}, declared.dir.DirRecord.{DirRecord}, declared.fault.HeadFault.{HeadFault}}
 use Rattle.rio_head.specs.{declared.fault.FileFault.TheVariants.{NotClosed, BadDir, BadKeyList}, Head.{fault_at, head_at, BeginsAsHead}, Dir.{dir_at}}

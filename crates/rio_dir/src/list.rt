@@ -2,8 +2,7 @@
 ghost use Rattle.std.specs.Prelude.{◌≡◌, ◌+◌, ◌<◌, ◌^◌, ◌++◌, ℕ, List, Ok, length, IfOk};
 ghost use Rattle.rio_num.specs.Answers.{GivesUnless, TellsUnless};
 ghost use Rattle.rio_num.specs.Plain.{IsSpelledIn};
-ghost use Rattle.rio_key.specs.KeyList.{BreaksKeyList, SpellsKeyList, key_list_at};
-ghost use Rattle.rio_key.specs.declared.fault.KeyFault.TheVariants.{NoMemory as OutOfMemory};
+ghost use Rattle.rio_key.specs.{KeyList.{BreaksKeyList, SpellsKeyList, key_list_at}, declared.fault.KeyFault.TheVariants.{NoMemory as OutOfMemory}};
 ghost use Rattle.rio_dir.specs.KeyList.{heads_in};
 
 use rio_key::{Heads, KeyFault, read_heads};

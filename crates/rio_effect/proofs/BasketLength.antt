@@ -4,7 +4,7 @@ use Rattle.std.proofs.lemmas.List.{length-replicate}
 use Rattle.std.specs.Int.{w32, cast_unsigned}
 use Rattle.rio_num.specs.{Room.{padding}, Text.{text_bytes}}
 use Rattle.rio_key.specs.{BasketHead.{basket_head_bytes, integer_bytes, sizes_bytes}, Written.{number_bytes, written_key}, declared.basket_head.BasketHead.{BasketHead}, declared.head.KeyHead.{KeyHead}}
-use Rattle.rio_basket.specs.{Open.{OpenBasket}, Record.{basket_data, basket_head, basket_key, basket_key_length, basket_record, basket_record_length, unpadded_basket}}
+use Rattle.rio_key.specs.{OpenBasket.{OpenBasket}, BasketRecord.{basket_data, basket_head, basket_key, basket_key_length, basket_record, basket_record_length, unpadded_basket}}
 use Rattle.rio_effect.specs.TreeRecords.{BasketWords, basket_with_words, length_of_basket, record_of_basket}
 
 head_long : (h : BasketHead) → length (basket_head_bytes h) ≡ 19

@@ -1,8 +1,7 @@
 -- With the record that a class command writes the records stand for the state after the command.
 use Rattle.std.proofs.Common.{◌≡◌, ℕ, ◌+◌, ◌^◌, ◌<◌, ◌≤◌, List, [], ◌∷◌, ◌++◌, length, true, false, Option, Some, None, refl, sym, ap, subst, arith}
 use Rattle.std.proofs.lemmas.{Bool.{leb-false, ltb-false}, List.{length-append}}
-use Rattle.rio_types.specs.declared.class.ClassDef.{ClassDef}
-use Rattle.rio_format.specs.{WrittenBytes.{length_limit, written_list}}
+use Rattle.rio_format.specs.{declared.class.ClassDef.{ClassDef}, WrittenBytes.{length_limit, written_list}, Growth.{PicksStay}}
 use Rattle.rio_model.specs.{Declaring.{declared}, StateClasses.{HasShortList, StateClasses}, Stated.{is_stated_class}}
 use Rattle.rio_machine.specs.{State.{State}, declared.command.Command.TheVariants.{Class}, declared.refusal.Refusal.{Refusal, TheVariants.{TooLarge, TooMany}}}
 use Rattle.rio_chain.specs.{Changes.{with_record}, Segments.{IsChain, Link}}
@@ -14,7 +13,6 @@ use Rattle.rio_effect.specs.ClassRecord.{list_key, list_record, next_list_cycle}
 use Rattle.rio_effect.specs.Classes.{ClassTakesEffect, ClassesHaveRecords, ClassesIgnorePending, IsClassRecord, IsDeclared, list_in}
 use Rattle.rio_effect.proofs.{ClassEffect.{IsNextList, appended, described_longer, list_keys_stay, next_list_takes_effect}, OldLists.{info_among, list_is_later, list_unreferred, place_apart}}
 use Rattle.rio_effect.proofs.{ListPut.{CanBeListed, counts, is_list, keeps_one, list_long, list_unnamed, more, new_list, newer, r as list, words_fit}, PutEffect.{classes_of_records}}
-use Rattle.rio_format.specs.Growth.{PicksStay}
 use Rattle.rio_effect.proofs.{TreesGrow.{LeavesTrees, one_class_more}}
 
 -- ---- what an accepted command knows

@@ -2,10 +2,8 @@
 use Rattle.std.proofs.Common.{◌≡◌, ◌<◌, ◌∙◌, ◌==◌, List, [], ◌∷◌, ◌++◌, length, Bool, true, false, cond, not, ltb, Option, Some, None, refl, sym, ap, subst, append_assoc, arith}
 use Rattle.std.proofs.lemmas.{Bool.{and_from, and_left, and_parts, and_right, le-ltb, lt-ltb, ltb-false, ltb-true}, List.{drop_at}, Option.{same_Some}}
 use Rattle.std.specs.{Prelude.{if◌then◌else◌, is_some, option_and_then, ◌↔◌}, List.{Contains, find, list_all}, Result.{result_unwrap_or}, Str.{bytes_eq}}
-use Rattle.rio_types.specs.declared.class.ClassDef.{ClassDef}
-use Rattle.rio_value.specs.declared.value.Value.{Value}
+use Rattle.rio_format.specs.{declared.class.ClassDef.{ClassDef}, declared.value.Value.{Value}, Growth.{PicksStay}, TreeClasses.{tree_classes, written_classes}}
 use Rattle.rio_key.specs.declared.head.KeyHead.{KeyHead}
-use Rattle.rio_format.specs.{Growth.{PicksStay}, TreeClasses.{tree_classes, written_classes}}
 use Rattle.rio_format.proofs.Picks.{later_leave_picks}
 use Rattle.rio_effect.proofs.TreesGrow.{one_class_more, tree_grows}
 use Rattle.rio_machine.specs.State.{State}

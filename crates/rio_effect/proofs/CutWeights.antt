@@ -5,8 +5,8 @@ use Rattle.std.specs.{Prelude.{if◌then◌else◌, nat_le, slice_get, unwrap_or
 use Rattle.rio_leaf.specs.declared.branch.BranchDef.{BranchDef}
 use Rattle.rio_num.specs.{Text.{text_bytes}}
 use Rattle.rio_num.proofs.TextLengths.{short_text_bytes}
-use Rattle.rio_basket.specs.{Cut.{Cut, basket_with, baskets_of_cut, cut_behind, cut_more, cut_of}, Open.{OpenBasket, entries_length, takes_entry}, Record.{basket_data, basket_key_length}}
-use Rattle.rio_basket.proofs.HeldLaws.{data_with_offsets, data_without_offsets}
+use Rattle.rio_key.specs.{Cut.{Cut, basket_with, baskets_of_cut, cut_behind, cut_more, cut_of}, OpenBasket.{OpenBasket, entries_length, takes_entry}, BasketRecord.{basket_data, basket_key_length}}
+use Rattle.rio_key.proofs.HeldLaws.{data_with_offsets, data_without_offsets}
 use Rattle.rio_tree.specs.Header.{has_offsets}
 use Rattle.rio_state.specs.TreeLengths.{BasketLengths, basket_lengths, cut_count, entries_by_branch, open_baskets, put_count}
 use Rattle.rio_effect.specs.{Changes.{lengths_of}, TreeChanges.{basket_changes, full_entries}, TreeRecords.{length_of_basket, words_of_basket}}

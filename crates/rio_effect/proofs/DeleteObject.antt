@@ -2,7 +2,7 @@
 use Rattle.std.proofs.Common.{◌≡◌, ◌∙◌, List, Bool, true, false, cond, not, ◌==◌, Option, Some, None, refl, sym, ap, subst}
 use Rattle.std.proofs.{lemmas.Bool.{not-true}, lemmas.Map.Views.{tells_apart}, lemmas.Slice.Eq.{bytes_eq-Decides}}
 use Rattle.std.specs.{Prelude.{is_some, option_and_then}, FinMap.{get, get-remove, remove}, List.{find, list_all, list_any}, Str.{bytes_eq}}
-use Rattle.rio_types.specs.declared.class.ClassDef.{ClassDef}
+use Rattle.rio_format.specs.declared.class.ClassDef.{ClassDef}
 use Rattle.rio_machine.proofs.OrderLaws.{items_tie, items_total}
 use Rattle.rio_machine.specs.State.{NameAndCycle, State, names_tree}
 use Rattle.rio_state.specs.{Contents.{file_classes, object_in, state_classes}, Trees.{TreesBeside, places_named, tree_of, tree_under}}

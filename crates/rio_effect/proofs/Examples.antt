@@ -2,12 +2,9 @@
 use Rattle.std.proofs.Common.{◌≡◌, ℕ, pos, List, [], ◌∷◌, ◌++◌, Option, Some, None, refl, sym, ap, ◌∙◌}
 use Rattle.std.specs.Prelude.{codes, unwrap_or}
 use Rattle.byteorder.specs.Endian.{big_bytes}
-use Rattle.rio_types.specs.{declared.class.ClassDef.{ClassDef}, declared.kind.Kind.TheVariants.{Plain, Inline, Pointer}}
-use Rattle.rio_types.specs.declared.kind.Primitive.TheVariants.{I32}
-use Rattle.rio_value.specs.declared.value.Part.{Part}
-use Rattle.rio_value.specs.declared.value.Value.{Value, Int, Object, Pointed, Null, out-roll-Value, TheOpen.{Value-F}, TheVariants.{rolls-Object}}
-use Rattle.rio_value.specs.declared.value.Value.TheOpen as layer
-use Rattle.rio_buffer.specs.ReaderState.{no_words}
+use Rattle.rio_format.specs.{declared.class.ClassDef.{ClassDef}, declared.kind.Kind.TheVariants.{Plain, Inline, Pointer}, declared.kind.Primitive.TheVariants.{I32}, declared.value.Part.{Part}}
+use Rattle.rio_format.specs.{declared.value.Value.{Value, Int, Object, Pointed, Null, out-roll-Value, TheOpen.{Value-F}, TheVariants.{rolls-Object}}, ReaderState.{no_words}}
+use Rattle.rio_format.specs.declared.value.Value.TheOpen as layer
 use Rattle.rio_format.specs.{Bodies.{member, part}, Slots.{kinded}, Written.{Writing, writing_of, writing_step}}
 use Rattle.rio_format.proofs.{ValueCases.{fold_Int, fold_Null, fold_Pointed}, WrittenValues.{write_object}}
 use Rattle.rio_chain.specs.{Record.{record_bytes}, declared.key_words.KeyWords.{KeyWords}}

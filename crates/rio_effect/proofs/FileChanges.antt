@@ -3,13 +3,12 @@ use Rattle.std.proofs.Common.{◌≡◌, ℕ, ◌+◌, ◌-◌, ◌%◌, List, [
 use Rattle.std.proofs.lemmas.List.{length-replicate}
 use Rattle.rio_chain.specs.{Placing.{with_segment, with_segments}, Segments.{segment_of}}
 use Rattle.rio_chain.proofs.{FewerRecords.{keeps_segments}, PutChain.{map_all, map_with}}
-use Rattle.rio_types.specs.declared.class.ClassDef.{ClassDef}
+use Rattle.rio_format.specs.{declared.class.ClassDef.{ClassDef}, declared.value.Value.{Value}}
 use Rattle.rio_key.specs.{Written.{written_key}, declared.head.KeyHead.{KeyHead}}
 use Rattle.rio_machine.specs.State.{State}
 use Rattle.rio_num.specs.Room.{padding}
 use Rattle.rio_chain.specs.{Record.{key_size, new_key, record_bytes, unpadded}, declared.key_words.KeyWords.{KeyWords}}
 use Rattle.rio_chain.proofs.Records.{key_long}
-use Rattle.rio_value.specs.declared.value.Value.{Value}
 use Rattle.std.specs.Prelude.{sum}
 use Rattle.rio_machine.specs.declared.command.PutItem.{PutItem}
 use Rattle.rio_step.specs.{Refusing.{with_class}, Step.{with_object}}

@@ -7,7 +7,7 @@ use Rattle.rio_num.proofs.BytesEq.{bytes_eq-sym}
 use Rattle.rio_leaf.specs.{Stated.{are_branches_behind, are_stated_branches, has_branch, is_stated_branch}, declared.branch.BranchDef.{BranchDef}}
 use Rattle.rio_chain.specs.Segments.{IsChain, Link}
 use Rattle.rio_machine.proofs.OrderLaws.{names_total}
-use Rattle.rio_basket.specs.Cut.{cut_of}
+use Rattle.rio_key.specs.Cut.{cut_of}
 use Rattle.rio_machine.specs.{Limits.{head_length}, Rows.{entries_of}, State.{Row, State, Tree}, declared.command.Command.TheVariants.{Fill}, declared.refusal.Refusal.{Refusal}}
 use Rattle.rio_tree.specs.{HeaderLength.{basket_count, header_length}, WrittenLaws.{stated_defs}, declared.head.TreeHead.{TreeHead}}
 use Rattle.rio_state.specs.{Closing.{KeptRecords, held_with, kept_with}, KeyedRecords.{KeyedRecord, info_key, keyed_records}, Contents.{FileClasses, file_classes, state_classes}, Reads.{AreRecordsOf}, Trees.{saved_tree}}

@@ -2,9 +2,8 @@
 use Rattle.std.proofs.Common.{◌≡◌, inl, ℕ, ◌+◌, ◌^◌, ◌<◌, ◌≤◌, ◌∙◌, ◌==◌, List, [], length, map, true, false, not, Option, Some, None, refl, sym, ap, subst, arith}
 use Rattle.std.proofs.lemmas.Bool.{and_left, eqb-true}
 use Rattle.std.specs.{Prelude.{is_some, option_and_then}, List.{find, list_all}, Str.{bytes_eq}}
-use Rattle.rio_types.specs.declared.class.ClassDef.{ClassDef}
+use Rattle.rio_format.specs.{declared.class.ClassDef.{ClassDef}, Growth.{PicksStay}}
 use Rattle.rio_key.specs.{declared.head.KeyHead.{KeyHead}}
-use Rattle.rio_format.specs.Growth.{PicksStay}
 use Rattle.rio_format.proofs.Picks.{later_leave_picks}
 use Rattle.rio_model.specs.StateClasses.{HasShortList}
 use Rattle.rio_chain.specs.{Changes.{with_record}, Placing.{IsPlaceFor}, Record.{new_key, record_bytes}, Segments.{IsChain, IsRecord, Link, segment_of}}

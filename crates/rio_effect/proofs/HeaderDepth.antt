@@ -2,7 +2,7 @@
 use Rattle.std.proofs.{Common.{◌≡◌, ◌≤◌, ◌∙◌, ℕ, ◌+◌, ℤ, pos, List, [], ◌∷◌, ◌++◌, map, codes, Bool, true, ◌&&◌, Option, Some, None, refl, ap, arith}, lemmas.Bool.{and_from}}
 use Rattle.std.specs.{Prelude.{int_le}, List.{list_all}, Map.{lookup}, Str.{bytes_eq}}
 use Rattle.rio_leaf.specs.{declared.branch.Shape.{Shape, TheVariants.{Leaves, Class}}, declared.leaf.Dim.{Dim, TheVariants.{One, Fixed, Counted}}, declared.leaf.Leaf.{Leaf}}
-use Rattle.rio_value.specs.{Depth.{depth_of, depth_step, greatest}, declared.value.Part.{Part}, declared.value.Value.{Value, Int, Bool as Truth, Text, List as Items, Object, Pointed, Null, Back, TheFolds.{fold-Part, fold_out-Part}}}
+use Rattle.rio_format.specs.{Depth.{depth_of, depth_step, greatest}, declared.value.Part.{Part}, declared.value.Value.{Value, Int, Bool as Truth, Text, List as Items, Object, Pointed, Null, Back, TheFolds.{fold-Part, fold_out-Part}}}
 use Rattle.rio_format.specs.{Laws.{has_versions, versions_step}, WrittenList.{array_object, plain_object, titled_object}}
 use Rattle.rio_format.proofs.ValueCases.{fold_Back, fold_Bool, fold_Int, fold_List, fold_Null, fold_Object, fold_Pointed, fold_Text}
 use Rattle.rio_tree.specs.{Header.{branch_leaves}, declared.basket_at.BasketAt.{BasketAt}, declared.head.Branch.{Branch}, declared.head.TreeHead.{TreeHead}}

@@ -2,7 +2,7 @@
 use Rattle.std.proofs.{Common.{◌≡◌, ◌∙◌, ℕ, ◌+◌, ℤ, pos, List, [], ◌∷◌, ◌++◌, map, codes, Bool, true, Option, Some, None, refl}, lemmas.Bool.{and_from}}
 use Rattle.std.specs.{List.{list_all}, Map.{lookup}, Str.{bytes_eq}}
 use Rattle.rio_leaf.specs.{declared.branch.Shape.{Shape, TheVariants.{Leaves, Class}}, declared.leaf.Dim.{Dim, TheVariants.{One, Fixed, Counted}}, declared.leaf.Leaf.{Leaf}}
-use Rattle.rio_value.specs.{declared.value.Part.{Part}, declared.value.Value.{Value, Int, Bool as Truth, Text, List as Items, Object, Pointed, Back}}
+use Rattle.rio_format.specs.{declared.value.Part.{Part}, declared.value.Value.{Value, Int, Bool as Truth, Text, List as Items, Object, Pointed, Back}}
 use Rattle.rio_format.specs.{Growth.{all_read_step, is_all_read}, WrittenList.{array_object, plain_object, titled_object}}
 use Rattle.rio_format.proofs.{AllRead.{AllRead, items_layer, parts_layer, pointed_layer}, ValueCases.{fold_Back, fold_Bool, fold_Int, fold_Null, fold_Text}}
 use Rattle.rio_tree.specs.{Header.{branch_leaves}, declared.basket_at.BasketAt.{BasketAt}, declared.head.Branch.{Branch}, declared.head.TreeHead.{TreeHead}}

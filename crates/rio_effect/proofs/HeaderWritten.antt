@@ -5,9 +5,8 @@ use Rattle.std.specs.{Prelude.{option_and_then}, List.{list_any}, Result.{result
 use Rattle.rio_num.specs.{Reading.{some_if}, Room.{is_padding}}
 use Rattle.rio_num.proofs.Puts.{zeros_pad}
 use Rattle.rio_leaf.specs.Stated.{are_stated_branches}
-use Rattle.rio_value.specs.{CodeLaws.{coded_decides}, Depth.{depth_of}, declared.value.Value.{Value}}
-use Rattle.rio_value.specs.contracts.value.Value as values
-use Rattle.rio_format.specs.{Objects.{SpellsObject, depth_limit, first_at}, TreeClasses.{tree_classes}}
+use Rattle.rio_format.specs.{CodeLaws.{coded_decides}, Depth.{depth_of}, declared.value.Value.{Value}, Objects.{SpellsObject, depth_limit, first_at}, TreeClasses.{tree_classes}}
+use Rattle.rio_format.specs.contracts.value.Value as values
 use Rattle.rio_format.proofs.{GrowthLaws.{read_stays}, ObjectLaws.{spelled_is_read}, WrittenValues.{written_is_spelled}}
 use Rattle.rio_model.specs.Declaring.{shape_lacks_class}
 use Rattle.rio_machine.specs.Limits.{has_many_branches}

@@ -12,7 +12,7 @@ use Rattle.rio_chain.specs.Record.{key_size}
 use Rattle.rio_state.specs.{Closing.{free_length, held_beside, held_with, kept_with, list_length, name_in, saved_lengths}, KeyedRecords.{keyed_records}, TreeLengths.{PendingRows, idle_length, save_lengths, small_fillings}}
 use Rattle.rio_state.proofs.{CloseSizes.{closing_sum}, MoreRecords.{first_stays}}
 use Rattle.rio_num.specs.Word.{is_item_text}
-use Rattle.rio_value.specs.declared.value.Value.{Value}
+use Rattle.rio_format.specs.declared.value.Value.{Value}
 use Rattle.rio_model.specs.StateClasses.{StateClasses}
 use Rattle.rio_step.specs.{Costs.{accepted_cost, cost_of, put_cost}, Refusing.{put_value, refusal_of}}
 use Rattle.rio_effect.specs.{Laws.{HeldGrows}, ObjectRecord.{data_of_put, object_record, record_of_put, words_of_put}}

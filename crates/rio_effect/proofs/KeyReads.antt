@@ -2,9 +2,7 @@
 use Rattle.std.proofs.Common.{◌≡◌, ◌⊎◌, inl, inr, ℕ, ◌+◌, ◌∙◌, List, [], ◌∷◌, drop, length, not, Option, Some, Result, Ok, refl, sym, ap, subst}
 use Rattle.std.proofs.lemmas.Option.{same_Some}
 use Rattle.std.specs.{FinMap.{get}, List.{Contains, cons_option}}
-use Rattle.rio_value.specs.declared.value.Value.{Value}
-use Rattle.rio_buffer.specs.declared.fault.ObjFault.{ObjFault}
-use Rattle.rio_format.specs.Objects.{value_at}
+use Rattle.rio_format.specs.{declared.value.Value.{Value}, declared.fault.ObjFault.{ObjFault}, Objects.{value_at}}
 use Rattle.rio_key.specs.{declared.head.KeyHead.{KeyHead}, declared.fault.KeyFault.{KeyFault}}
 use Rattle.rio_chain.specs.Segments.{GapAt, HoldsLinks, IsChain, IsRecord, Link, RecordAt}
 use Rattle.rio_machine.specs.State.{State}

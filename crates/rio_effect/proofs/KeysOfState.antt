@@ -7,7 +7,7 @@ use Rattle.std.specs.{List.{filter}, Option.{option_map}, Ordering.{eq_by_cmp, i
 use Rattle.std.specs.{Cmp.{eq_by_cmp_equiv, Lexicographic.{slice_cmp}}, declared.cmp.Ordering.{Ordering, TheVariants.{Less, Equal, Greater}}}
 use Rattle.rio_num.specs.Word.{name_order}
 use Rattle.rio_num.proofs.Cases.{is_true, some_of}
-use Rattle.rio_value.specs.declared.value.Value.{Value}
+use Rattle.rio_format.specs.declared.value.Value.{Value}
 use Rattle.rio_key.specs.declared.head.KeyHead.{KeyHead}
 use Rattle.rio_dir.specs.Table.{AreBehind, AreOrdered, comes_before, first_by}
 use Rattle.rio_machine.proofs.OrderLaws.{items_tie, items_total}

@@ -2,13 +2,10 @@
 use Rattle.std.proofs.Common.{◌≡◌, ℕ, ◌+◌, ◌-◌, ◌^◌, ◌<◌, ◌≤◌, ◌∙◌, ◌==◌, List, codes, length, replicate, Bool, true, false, Option, Some, None, Ok, refl, sym, ap, subst, arith}
 use Rattle.std.proofs.lemmas.Bool.{or_right}
 use Rattle.std.specs.{List.{flat_map, list_any, sum_by}, Option.{option_map_or}}
-use Rattle.rio_types.specs.declared.class.ClassDef.{ClassDef}
-use Rattle.rio_key.specs.declared.head.KeyHead.{KeyHead}
-use Rattle.rio_format.specs.{ClassList.{class_list_at}, Growth.{PicksStay}, TreeClasses.{written_classes}, WrittenList.{class_list_value}}
-use Rattle.rio_format.specs.Descriptions.{description_classes}
+use Rattle.rio_format.specs.{declared.class.ClassDef.{ClassDef}, ClassList.{class_list_at}, Growth.{PicksStay}, TreeClasses.{written_classes}, WrittenList.{class_list_value}, Descriptions.{description_classes}}
+use Rattle.rio_key.specs.{declared.head.KeyHead.{KeyHead}, Written.{written_key}}
 use Rattle.rio_model.specs.StateClasses.{HasShortList, StateClasses}
 use Rattle.rio_model.proofs.{ListNumbers.{written_are_described}, ListSpelled.{written_classes_are_read}}
-use Rattle.rio_key.specs.Written.{written_key}
 use Rattle.rio_machine.specs.{Limits.{head_length}, State.{State}}
 use Rattle.rio_chain.specs.{Changes.{with_record}, NewRecords.{IsNewRecord}, Segments.{IsChain, Link}}
 use Rattle.rio_chain.specs.{Record.{FitsWords, key_size, new_key, record_bytes}, declared.key_words.KeyWords.{KeyWords}}

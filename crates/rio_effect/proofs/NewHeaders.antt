@@ -3,7 +3,7 @@ use Rattle.std.proofs.Common.{◌≡◌, inr, ⊎_elim, false, ℕ, ◌+◌, ◌
 use Rattle.std.proofs.lemmas.{Bool.{and_parts}, List.Sums.{sum_by-cons}}
 use Rattle.std.specs.{List.{find, flat_map, list_any, sum_by}, Option.{option_map_or}, Str.{bytes_eq}}
 use Rattle.rio_leaf.specs.declared.branch.BranchDef.{BranchDef}
-use Rattle.rio_types.specs.declared.class.ClassDef.{ClassDef}
+use Rattle.rio_format.specs.declared.class.ClassDef.{ClassDef}
 use Rattle.rio_num.specs.{Text.{text_bytes}, Word.{is_item_text}}
 use Rattle.rio_num.proofs.TextLengths.{short_text_bytes}
 use Rattle.rio_key.specs.{Written.{written_key}, declared.head.KeyHead.{KeyHead}}

@@ -4,7 +4,7 @@ use Rattle.std.proofs.{lemmas.Bool.{and_from, and_parts}, lemmas.Map.Views.{tell
 use Rattle.std.specs.{Prelude.{is_some}, Cmp.{eq_by_cmp_equiv}, FinMap.{contains_key-keys, get, keys}, List.{filter, list_any}, Ordering.{eq_by_cmp}}
 use Rattle.std.specs.Str.{bytes_eq}
 use Rattle.rio_num.proofs.Cases.{some_of}
-use Rattle.rio_value.specs.{Depth.{greatest}, declared.value.Value.{Value}}
+use Rattle.rio_format.specs.{Depth.{greatest}, declared.value.Value.{Value}}
 use Rattle.rio_key.specs.declared.head.KeyHead.{KeyHead}
 use Rattle.rio_dir.proofs.TableOrder.{at_is}
 use Rattle.rio_dir.specs.Table.{greatest_cycle, is_at_cycle, is_of_name}

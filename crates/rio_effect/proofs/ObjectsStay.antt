@@ -2,10 +2,7 @@
 use Rattle.std.proofs.Common.{◌≡◌, List, [], ◌∷◌, ◌++◌, Bool, true, false, cond, not, ◌&&◌, Option, Some, None, Ok, Err, refl, ap, ◌∙◌}
 use Rattle.std.proofs.lemmas.{Bool.{and_from, and_parts}, Option.{same_Some}}
 use Rattle.rio_num.specs.Room.{is_padding}
-use Rattle.rio_types.specs.declared.class.ClassDef.{ClassDef}
-use Rattle.rio_value.specs.declared.value.Value.{Value}
-use Rattle.rio_buffer.specs.Frames.{Step}
-use Rattle.rio_format.specs.{Fits.{fits}, Objects.{first_at}, Slots.{can_be_put}}
+use Rattle.rio_format.specs.{declared.class.ClassDef.{ClassDef}, declared.value.Value.{Value}, Frames.{Step}, Fits.{fits}, Objects.{first_at}, Slots.{can_be_put}}
 use Rattle.rio_machine.specs.Limits.{has_long_list, is_too_deep, is_too_long}
 use Rattle.rio_state.specs.{Contents.{can_be_stored, object_in, stored_in}, KeyedRecords.{KeyedRecord, record_data}}
 use Rattle.rio_format.proofs.GrowthLaws.{fitting_read_stays}

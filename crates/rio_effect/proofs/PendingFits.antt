@@ -3,7 +3,7 @@ use Rattle.std.proofs.Common.{◌≡◌, ◌∙◌, List, [], true, not, ◌&&�
 use Rattle.std.proofs.{lemmas.Bool.{and_parts}, lemmas.Option.{same_Some}, lemmas.Slice.Eq.{bytes_eq-Decides}}
 use Rattle.std.specs.{FinMap.{get}, List.{list_all, list_any}, Option.{option_map_or}}
 use Rattle.rio_leaf.specs.declared.branch.BranchDef.{BranchDef}
-use Rattle.rio_types.specs.declared.class.ClassDef.{ClassDef}
+use Rattle.rio_format.specs.declared.class.ClassDef.{ClassDef}
 use Rattle.rio_machine.specs.{Limits.{has_long_entry, has_long_list, is_too_deep}, Rows.{row_fits}, State.{Row, Tree}}
 use Rattle.rio_tree.specs.{WrittenLaws.{stated_defs}, declared.head.TreeHead.{TreeHead}}
 use Rattle.rio_state.specs.{Contents.{file_classes}, KeyedRecords.{info_key, is_tree_record, keyed_records, top_keys, tree_records}, Trees.{header_in}}

@@ -5,17 +5,15 @@ use Rattle.std.specs.{Prelude.{option_and_then}, List.{list_all, list_any}, Resu
 use Rattle.rio_num.specs.Reading.{some_if}
 use Rattle.rio_num.proofs.Cases.{some_of}
 use Rattle.rio_leaf.specs.declared.branch.BranchDef.{BranchDef}
-use Rattle.rio_types.specs.declared.class.ClassDef.{ClassDef}
-use Rattle.rio_value.specs.{Depth.{depth_of}, declared.value.Value.{Value}}
-use Rattle.rio_format.specs.{Bodies.{Counters}, Fits.{fitting_of}, Laws.{has_versions}, Objects.{depth_limit}}
+use Rattle.rio_format.specs.{declared.class.ClassDef.{ClassDef}, Depth.{depth_of}, declared.value.Value.{Value}, Bodies.{Counters}, Fits.{fitting_of}, Laws.{has_versions}, Objects.{depth_limit}}
 use Rattle.rio_chain.specs.{Changes.{with_record}}
 use Rattle.rio_model.specs.StateClasses.{StateClasses}
 use Rattle.rio_machine.specs.{Limits.{has_long_entry, has_long_list, is_too_deep}, RowEntries.{row_in}, Rows.{Column, column_slot, columns_fit, columns_of, entries_of, leaf_numbers_behind, row_fits, stands_in}, State.{Row}}
 use Rattle.rio_machine.specs.declared.entry_fault.EntryFault.{EntryFault}
 use Rattle.rio_entry.proofs.WholeRows.{written_rows_read}
 use Rattle.rio_entry.specs.Laws.{can_be_read_back}
-use Rattle.rio_basket.specs.{Entries.{entries_in}}
-use Rattle.rio_basket.proofs.WrittenBaskets.{are_basket_records}
+use Rattle.rio_key.specs.BasketEntries.{entries_in}
+use Rattle.rio_key.proofs.WrittenBaskets.{are_basket_records}
 use Rattle.rio_state.specs.{KeyedRecords.{KeyedRecord, has_class, keyed_records}, OneMore.{keyed_bytes}, Trees.{basket_bytes, bytes_as_said}}
 use Rattle.rio_state.proofs.{Insertion.{find_more}, MoreRecords.{key_is_read, record_more}}
 use Rattle.rio_effect.specs.{PutBaskets.{BasketsHaveRecords, PendingRowsAreRead, PutBasketIsRead}, TreeRecords.{basket_at, basket_with_words, key_of_basket, length_of_basket, record_of_basket}}

@@ -3,8 +3,7 @@ use Rattle.std.proofs.Common.{◌≡◌, ⊎_elim, ℕ, ℤ, pos, negsuc, ◌≤
 use Rattle.std.proofs.{lemmas.Bool.{and_from, and_parts, leb-true, or_cases}, lemmas.Int.{ints}, lemmas.Slice.Eq.{bytes_eq-Decides}}
 use Rattle.std.specs.{Prelude.{is_some}, List.{list_all}, Str.{bytes_eq}}
 use Rattle.rio_num.specs.Word.{is_item_text, is_name_text}
-use Rattle.rio_types.specs.{Classes.{newer_of, newest_in}, declared.class.ClassDef.{ClassDef}}
-use Rattle.rio_format.specs.{Bodies.{form_of, headed_classes}, Slots.{can_be_put, is_headed}}
+use Rattle.rio_format.specs.{Classes.{newer_of, newest_in}, declared.class.ClassDef.{ClassDef}, Bodies.{form_of, headed_classes}, Slots.{can_be_put, is_headed}}
 use Rattle.rio_format.proofs.BuiltInLaws.{of_each}
 use Rattle.rio_model.specs.{Declaring.{is_reserved_name}, StateClasses.{AreAccepted, IsDeclared, StateClasses}}
 use Rattle.rio_model.specs.Stated.{has_stated_parts, is_class_version, is_stated_class}

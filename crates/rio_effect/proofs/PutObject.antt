@@ -4,10 +4,8 @@ use Rattle.std.proofs.lemmas.Bool.{and_from, ltb-false, not-false, or_parts}
 use Rattle.std.specs.{Prelude.{if◌then◌else◌, unwrap_or}, Option.{option_map_or}}
 use Rattle.rio_num.specs.{Text.{text_bytes}, Word.{is_item_text}, Room.{is_padding}}
 use Rattle.rio_num.proofs.{Puts.{zeros_pad}, TextLengths.{short_text_bytes}}
-use Rattle.rio_types.specs.declared.class.ClassDef.{ClassDef}
-use Rattle.rio_value.specs.{Depth.{depth_of}, declared.value.Value.{Value}}
+use Rattle.rio_format.specs.{declared.class.ClassDef.{ClassDef}, Depth.{depth_of}, declared.value.Value.{Value}, ReaderState.{ReaderState}}
 use Rattle.rio_key.specs.Written.{padded_size}
-use Rattle.rio_buffer.specs.ReaderState.{ReaderState}
 use Rattle.rio_format.specs.{Fits.{fits}, Objects.{SpellsObject, depth_limit, first_at}, Slots.{can_be_put}, WrittenBytes.{length_limit}}
 use Rattle.rio_format.proofs.{ObjectLaws.{spelled_is_read}, WrittenValues.{written_is_spelled}}
 use Rattle.rio_model.specs.StateClasses.{StateClasses}

@@ -4,13 +4,9 @@ use Rattle.std.proofs.{lemmas.Bool.{and_parts}, lemmas.Slice.Eq.{bytes_eq-Decide
 use Rattle.std.specs.{Prelude.{if◌then◌else◌}, Str.{bytes_eq}}
 use Rattle.rio_num.specs.Room.{is_padding}
 use Rattle.rio_num.proofs.Cases.{some_of}
-use Rattle.rio_types.specs.{declared.class.ClassDef.{ClassDef}, declared.kind.Kind.TheVariants.{Inline}}
-use Rattle.rio_value.specs.declared.value.Part.{Part}
-use Rattle.rio_value.specs.declared.value.Value.{Value, out-Value, TheOpen.{Value-F}, TheFolds.{fold_out-Value}}
-use Rattle.rio_value.specs.declared.value.Value.TheOpen as layer
-use Rattle.rio_buffer.specs.Frames.{Step}
-use Rattle.rio_format.specs.{Fits.{Fitting, Labels, fits, fitting_of, fitting_step}, Objects.{first_at, only_value, value_at}}
-use Rattle.rio_format.specs.Slots.{kinded}
+use Rattle.rio_format.specs.{declared.class.ClassDef.{ClassDef}, declared.kind.Kind.TheVariants.{Inline}, declared.value.Part.{Part}, declared.value.Value.{Value, out-Value, TheOpen.{Value-F}, TheFolds.{fold_out-Value}}}
+use Rattle.rio_format.specs.declared.value.Value.TheOpen as layer
+use Rattle.rio_format.specs.{Frames.{Step}, Fits.{Fitting, Labels, fits, fitting_of, fitting_step}, Objects.{first_at, only_value, value_at}, Slots.{kinded}}
 use Rattle.rio_format.proofs.WrittenPointers.{fit_layer, no_pointer, no_reference}
 use Rattle.rio_state.specs.{Contents.{can_be_stored, object_in, stored_in}, KeyedRecords.{KeyedRecord, record_data}}
 use Rattle.rio_step.specs.Refusing.{object_class}

@@ -3,12 +3,11 @@ use Rattle.std.proofs.Common.{◌≡◌, ℕ, ◌+◌, ◌*◌, ◌≤◌, ◌�
 use Rattle.std.proofs.{lemmas.Bool.{and_parts, eqb-true}, lemmas.List.{length-append, length-map}, lemmas.Slice.Eq.{bytes_eq-Decides}, Math.Nat.{mul-add, mul_assoc}}
 use Rattle.std.specs.{Prelude.{if◌then◌else◌, is_some}, Int.{w32, cast_unsigned}, FinMap.{insert}, Option.{option_map_or}}
 use Rattle.rio_num.specs.Text.{text_bytes}
-use Rattle.rio_key.specs.{Written.{number_bytes, written_key}, declared.head.KeyHead.{KeyHead}}
+use Rattle.rio_key.specs.{Written.{number_bytes, written_key}, declared.head.KeyHead.{KeyHead}, Cut.{cut_of}}
 use Rattle.rio_dir.specs.Table.{with_head, without_head}
 use Rattle.rio_leaf.specs.declared.branch.BranchDef.{BranchDef}
 use Rattle.rio_chain.specs.{Segments.{IsChain, Link, chain_end}}
 use Rattle.rio_chain.proofs.Records.{key_long}
-use Rattle.rio_basket.specs.Cut.{cut_of}
 use Rattle.rio_machine.specs.{Limits.{head_length}, Rows.{entries_of}, State.{Row, State, Tree}, declared.command.Command.TheVariants.{Save}, declared.refusal.Refusal.{Refusal}}
 use Rattle.rio_tree.specs.{HeaderLength.{basket_count, header_length, header_size}, WrittenLaws.{stated_defs}, declared.head.TreeHead.{TreeHead}}
 use Rattle.rio_state.specs.{Closing.{KeptRecords, held_with, kept_with, padded_length}, Contents.{FileClasses, file_classes}, DirectoryKeys.{AreKeysOf}, KeyedRecords.{KeyedRecord, info_key, is_outdated, is_top_key, is_tree_key, is_tree_record, keyed_records, record_at, top_keys, tree_records}, OneLess.{links_without}, OneMore.{keyed_bytes}, Reads.{is_named_key}, Trees.{basket_places, header_in}}

@@ -4,14 +4,14 @@ use Rattle.std.proofs.lemmas.Bool.{and_parts, eq-eqb, eqb-true, ltb-true}
 use Rattle.std.proofs.lemmas.List.{length-append}
 use Rattle.std.specs.{Prelude.{is_none, nat_lt, option_and_then}, Option.{option_map}, Result.{result_ok}}
 use Rattle.rio_num.specs.Reading.{some_if}
-use Rattle.rio_basket.specs.{Cut.{all_entries, cut_into_baskets, firsts_from}, Entries.{entries_in}, declared.fault.BasketFault.{BasketFault}}
+use Rattle.rio_key.specs.{Cut.{all_entries, cut_into_baskets, firsts_from}, BasketEntries.{entries_in}, declared.basket_fault.BasketFault.{BasketFault}}
 use Rattle.rio_tree.specs.{Index.{basket_counts, counts_from}, Refusals.{are_in_order, rise_behind}, WrittenLaws.{IsReadableBranch}}
 use Rattle.rio_tree.specs.{declared.basket_at.BasketAt.{BasketAt}, declared.head.Branch.{Branch}}
 use Rattle.rio_leaf.specs.declared.branch.BranchDef.{BranchDef}
 use Rattle.rio_tree.specs.SavedEntries.{branch_entries, counted_entries, entries_of_baskets}
 use Rattle.rio_state.specs.Trees.{RecordsAt, basket_bytes}
 use Rattle.rio_effect.specs.SavedRows.{HoldAllEntries, HoldsEntries, IsBranchSaved}
-use Rattle.rio_basket.proofs.CutAll.{cut_holds_all}
+use Rattle.rio_key.proofs.CutAll.{cut_holds_all}
 
 -- ---- how many entries each basket has
 

@@ -3,11 +3,10 @@ use Rattle.std.proofs.Common.{◌≡◌, ⊎_elim, ℕ, ◌+◌, ◌∙◌, List
 use Rattle.std.proofs.lemmas.{Bool.{and_parts, eqb-true, lt-ltb}, List.{length-append, length-map}, Option.{same_Some}}
 use Rattle.std.specs.{List.{Contains, find, list_all, list_any}, Option.{option_map_or}, Str.{bytes_eq}}
 use Rattle.rio_leaf.specs.declared.branch.BranchDef.{BranchDef}
-use Rattle.rio_types.specs.declared.class.ClassDef.{ClassDef}
-use Rattle.rio_key.specs.declared.head.KeyHead.{KeyHead}
+use Rattle.rio_format.specs.declared.class.ClassDef.{ClassDef}
+use Rattle.rio_key.specs.{declared.head.KeyHead.{KeyHead}, Cut.{cut_of}}
 use Rattle.rio_chain.specs.Segments.{IsChain, Link}
 use Rattle.rio_machine.specs.{Rows.{entries_of}, State.{Row, State, Tree}}
-use Rattle.rio_basket.specs.Cut.{cut_of}
 use Rattle.rio_tree.specs.{WrittenLaws.{stated_defs}, declared.basket_at.BasketAt.{BasketAt}, declared.head.TreeHead.{TreeHead}}
 use Rattle.rio_state.specs.{Contents.{file_classes}, KeyedRecords.{KeyedRecord, info_key, is_tree_key, keyed_records, record_at, top_keys, tree_records}, OneMore.{keyed_bytes}, Reads.{AreRecordsOf}}
 use Rattle.rio_state.specs.{TreeLengths.{entries_by_branch}, Trees.{RecordsAt, all_places_named, are_named_once, basket_places, header_in, places_named, records_before, saved_rows}}

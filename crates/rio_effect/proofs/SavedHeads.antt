@@ -4,9 +4,9 @@ use Rattle.std.proofs.lemmas.Bool.{and_from, and_parts, eq-eqb, eqb-true}
 use Rattle.std.proofs.lemmas.List.{length-append, length-map, map-append, Elements.{All-cons}, Sums.{sum_by-cons}}
 use Rattle.std.specs.{Prelude.{is_some, slice_get, unwrap_or}, List.{flat_map, All, list_all}}
 use Rattle.rio_leaf.specs.declared.branch.BranchDef.{BranchDef}
-use Rattle.rio_types.specs.declared.class.ClassDef.{ClassDef}
-use Rattle.rio_basket.specs.Cut.{Cut, all_entries, basket_with, baskets_of_cut, cut_into_baskets, cut_of, firsts_from}
-use Rattle.rio_basket.proofs.CutAll.{all_of_cut, cut_holds_all}
+use Rattle.rio_format.specs.declared.class.ClassDef.{ClassDef}
+use Rattle.rio_key.specs.Cut.{Cut, all_entries, basket_with, baskets_of_cut, cut_into_baskets, cut_of, firsts_from}
+use Rattle.rio_key.proofs.CutAll.{all_of_cut, cut_holds_all}
 use Rattle.rio_model.specs.StateClasses.{StateClasses}
 use Rattle.rio_machine.specs.{RowEntries.{fitting_row}, Rows.{entries_of}, State.{Row}}
 use Rattle.rio_step.specs.Storable.{is_stored_row}

@@ -4,7 +4,7 @@ use Rattle.std.specs.Prelude.{T, is_some}
 use Rattle.std.specs.FinMap.{entries, entries-from_sorted, entries_sorted, from_entries, from_sorted, get, get-from_entries, get-from_sorted, is_sorted, len, len-entries, same_map}
 use Rattle.std.specs.{Option.{option_map}, Ordering.{is_lt}}
 use Rattle.rio_num.specs.Word.{name_order}
-use Rattle.rio_value.specs.declared.value.Value.{Value}
+use Rattle.rio_format.specs.declared.value.Value.{Value}
 use Rattle.rio_machine.proofs.OrderLaws.{names_tie, names_total}
 use Rattle.rio_machine.specs.{State.{State, Tree, names_tree}, declared.command.Command.TheVariants.{Put}}
 use Rattle.rio_step.proofs.ClosedLaws.{Named, saved_keeps_the_rest}

@@ -4,8 +4,7 @@ use Rattle.std.proofs.lemmas.{Bool.{ltb-false, ltb-true}, List.{length-append, l
 use Rattle.std.proofs.Math.Nat.{add-mul}
 use Rattle.std.specs.{Prelude.{nat_lt, option_and_then, slice_get, unwrap_or}, List.{All, range_with_len, sum_by}, Option.{option_map}}
 use Rattle.rio_leaf.specs.declared.branch.BranchDef.{BranchDef}
-use Rattle.rio_types.specs.declared.class.ClassDef.{ClassDef}
-use Rattle.rio_format.specs.Bodies.{Counters}
+use Rattle.rio_format.specs.{declared.class.ClassDef.{ClassDef}, Bodies.{Counters}}
 use Rattle.rio_machine.specs.{Rows.{entries_from, entries_of, leaf_numbers_after, shape_columns}, State.{Row}}
 use Rattle.rio_tree.specs.{Index.{basket_counts}, WrittenLaws.{AreReadableBranches, stated_defs}, declared.head.Branch.{Branch}, declared.head.TreeHead.{TreeHead}}
 use Rattle.rio_state.specs.{TreeLengths.{entries_by_branch}, Trees.{RecordsAt, basket_bytes, saved_rows}}

@@ -5,7 +5,7 @@ use Rattle.std.specs.{Prelude.{if◌then◌else◌}, FinMap.{entries}, Int.{w32,
 use Rattle.byteorder.specs.{Endian.{big_bytes}, Numbers.{length-bytes_high_first}}
 use Rattle.rio_num.specs.{Text.{text_bytes}, At.{place_len_of}}
 use Rattle.rio_num.proofs.Cases.{nothing_left}
-use Rattle.rio_value.specs.declared.value.Value.{Value}
+use Rattle.rio_format.specs.declared.value.Value.{Value}
 use Rattle.rio_key.specs.{Written.{number_bytes, written_key}, declared.head.KeyHead.{KeyHead}}
 use Rattle.rio_chain.specs.Segments.{IsChain, Link}
 use Rattle.rio_machine.specs.{Limits.{head_length}, State.{NameAndCycle, State}}

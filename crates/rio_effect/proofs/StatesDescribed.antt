@@ -2,8 +2,7 @@
 use Rattle.std.proofs.Common.{◌≡◌, ◌==◌, ℕ, ◌^◌, ◌<◌, ℤ, pos, negsuc, List, [], ◌∷◌, ◌++◌, map, Bool, true, false, cond, int_le, Option, Some, None, refl, sym, ap, subst, ◌∙◌, arith}
 use Rattle.std.proofs.{lemmas.Bool.{and_from, and_parts, eqb-true, lt-ltb}, lemmas.Int.{ints}}
 use Rattle.std.specs.{List.{fold, list_all}, Option.{option_map_or}, Str.{bytes_eq}}
-use Rattle.rio_types.specs.{Classes.{newer_of, newest_in}, declared.class.Base.{Base}, declared.class.ClassDef.{ClassDef}}
-use Rattle.rio_value.specs.Integers.{fits_signed}
+use Rattle.rio_format.specs.{Classes.{newer_of, newest_in}, declared.class.Base.{Base}, declared.class.ClassDef.{ClassDef}, Integers.{fits_signed}}
 use Rattle.rio_model.specs.{ClassGrammar.{checksum_of, summed}, ClassText.{text_of_class}, Declaring.{base_declared, newest_version}}
 use Rattle.rio_model.specs.{Described.{has_class_numbers, is_base_number, is_described}, StateClasses.{AreAccepted, IsDeclared}}
 use Rattle.rio_model.specs.Stated.{has_stated_parts, is_class_version, is_stated_class}

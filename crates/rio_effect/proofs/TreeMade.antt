@@ -5,7 +5,7 @@ use Rattle.std.proofs.Math.Seq.{take-append-add, take-append_seam}
 use Rattle.std.specs.{Prelude.{is_some, if◌then◌else◌, option_and_then}, FinMap.{get, insert}, List.{Contains}, Option.{option_map, option_map_or}, Str.{bytes_eq}}
 use Rattle.rio_key.specs.declared.head.KeyHead.{KeyHead}
 use Rattle.rio_leaf.specs.declared.branch.BranchDef.{BranchDef}
-use Rattle.rio_types.specs.declared.class.ClassDef.{ClassDef}
+use Rattle.rio_format.specs.declared.class.ClassDef.{ClassDef}
 use Rattle.rio_chain.specs.{Changes.{with_record}, Placing.{IsPlaceFor, place_of}, Segments.{IsChain, Link, segment_of}, declared.key_words.KeyWords.{KeyWords}}
 use Rattle.rio_machine.specs.{RowEntries.{fitting_row}, State.{State, Tree, names_item, names_object}, declared.command.Command.TheVariants.{Tree as MakeTree}, declared.refusal.Refusal.{Refusal}}
 use Rattle.rio_tree.specs.{HeaderLength.{header_size}, SavedEntries.{BasketBytes, all_there, branch_entries, rows_by, rows_of}, WrittenLaws.{stated_defs}, declared.head.TreeHead.{TreeHead}}

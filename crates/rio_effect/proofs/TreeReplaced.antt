@@ -3,10 +3,10 @@ use Rattle.std.proofs.Common.{◌≡◌, ℕ, ◌+◌, ◌*◌, codes, List, [],
 use Rattle.std.proofs.lemmas.{Bool.{ne_eqb}, List.Sums.{sum_by-append, sum_by-cons}}
 use Rattle.std.specs.{Str.{bytes_eq}}
 use Rattle.rio_leaf.specs.declared.branch.BranchDef.{BranchDef}
-use Rattle.rio_types.specs.declared.class.ClassDef.{ClassDef}
+use Rattle.rio_format.specs.declared.class.ClassDef.{ClassDef}
 use Rattle.rio_chain.specs.Segments.{Link}
 use Rattle.rio_machine.specs.{Limits.{head_length}, Rows.{entries_of}, State.{Row, State}}
-use Rattle.rio_basket.specs.Cut.{cut_of}
+use Rattle.rio_key.specs.Cut.{cut_of}
 use Rattle.rio_tree.specs.{HeaderLength.{basket_count, header_length}, WrittenLaws.{stated_defs}, declared.head.TreeHead.{TreeHead}}
 use Rattle.rio_state.specs.{Closing.{KeptRecords, kept_with}, Contents.{FileClasses, file_classes}, KeyedRecords.{KeyedRecord, info_key, keyed_records, top_keys, tree_records}, OneLess.{links_without}, Reads.{AreRecordsOf}, Trees.{basket_places}}
 use Rattle.rio_state.specs.TreeLengths.{PendingRows, cut_count, cuts_of, entries_by_branch, open_baskets, put_count, tree_lengths}

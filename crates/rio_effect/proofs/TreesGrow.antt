@@ -4,17 +4,14 @@ use Rattle.std.proofs.lemmas.{Bool.{and_from, and_parts, not-false, not-true, or
 use Rattle.std.specs.{Prelude.{is_some, nat_lt, option_and_then}, List.{cons_option, list_all, list_any, range_with_len, sum_by}, Option.{option_map, option_map_or}, Result.{result_ok}, Str.{bytes_eq}}
 use Rattle.rio_num.specs.{Reading.{some_if}, Room.{is_padding}}
 use Rattle.rio_leaf.specs.{Stated.{are_stated_branches}, declared.branch.BranchDef.{BranchDef}, declared.branch.Shape.{Shape, TheVariants.{Leaves, Class}}}
-use Rattle.rio_types.specs.declared.class.ClassDef.{ClassDef}
-use Rattle.rio_value.specs.{CodeLaws.{coded_decides}, declared.value.Value.{Value}}
-use Rattle.rio_value.specs.contracts.value.Value as values
-use Rattle.rio_buffer.specs.Frames.{Step}
-use Rattle.rio_format.specs.{Growth.{PicksStay, is_all_read}, Objects.{first_at}}
+use Rattle.rio_format.specs.{declared.class.ClassDef.{ClassDef}, CodeLaws.{coded_decides}, declared.value.Value.{Value}, Frames.{Step}, Growth.{PicksStay, is_all_read}, Objects.{first_at}}
+use Rattle.rio_format.specs.contracts.value.Value as values
 use Rattle.rio_format.proofs.GrowthLaws.{read_stays}
 use Rattle.rio_model.specs.Declaring.{is_declared, shape_lacks_class}
 use Rattle.rio_machine.specs.{Limits.{has_many_branches, head_length}, RowEntries.{row_in}, Rows.{entries_of, row_fits}, State.{Row}}
 use Rattle.rio_machine.specs.declared.entry_fault.EntryFault.{EntryFault}
 use Rattle.rio_entry.proofs.FittingRows.{fitting_row_stays}
-use Rattle.rio_basket.specs.Cut.{cut_of}
+use Rattle.rio_key.specs.Cut.{cut_of}
 use Rattle.rio_step.proofs.{FitStays.{rows_more}, StorableLaws.{entries_same}}
 use Rattle.rio_tree.specs.{Header.{tree_head_in}, HeaderLength.{basket_count, header_length}, WrittenLaws.{stated_defs}, WrittenTree.{tree_value_of}}
 use Rattle.rio_tree.specs.{declared.fault.TreeFault.{TreeFault}, declared.head.TreeHead.{TreeHead}}

@@ -3,16 +3,12 @@ use Rattle.std.proofs.Common.{◌≡◌, ◌==◌, ℕ, ℤ, pos, List, [], ◌�
 use Rattle.std.proofs.lemmas.Bool.{and_from, and_parts, Decides.{Decides-int_eq}}
 use Rattle.std.specs.{Prelude.{if◌then◌else◌, is_some}, List.{list_all}, Option.{option_map}, Ordering.{int_eq}, Str.{bytes_eq}}
 use Rattle.rio_num.proofs.Cases.{if_some, some_of}
-use Rattle.rio_types.specs.{Classes.{find_in}, declared.class.ClassDef.{ClassDef}}
-use Rattle.rio_types.specs.declared.kind.Kind.TheVariants.{Plain, Counter, Fixed, Counted, Text as Texted, Inline, Pointer, Other}
-use Rattle.rio_value.specs.{declared.value.Value.{Value, List as Items, Object, Pointed}, declared.value.Part.{Part}}
-use Rattle.rio_format.specs.declared.form.Form.{Form, TheVariants.{Bare as bare, Numbers as numbers, Headed as headed}}
+use Rattle.rio_format.specs.{Classes.{find_in}, declared.class.ClassDef.{ClassDef}, declared.kind.Kind.TheVariants.{Plain, Counter, Fixed, Counted, Text as Texted, Inline, Pointer, Other}}
+use Rattle.rio_format.specs.{declared.value.Value.{Value, List as Items, Object, Pointed}, declared.value.Part.{Part}, declared.form.Form.{Form, TheVariants.{Bare as bare, Numbers as numbers, Headed as headed}}}
 use Rattle.rio_format.specs.Bodies.{Body, Counters, described, form_of, headed_classes}
 use Rattle.rio_format.specs.Fits.{Fitting, Labels, all_fit, counted_slot, counted_so_far, fields_fit, fits, fitting_of, fitting_step, link_fits, list_fits, may_point, object_may_stand, parts_fit, pointed_fits}
-use Rattle.rio_format.specs.Laws.{has_versions, versions_step}
-use Rattle.rio_format.specs.Slots.{Field, Slot, body_fields, declared_body, fields_of, form_fields, kinded, based, flags, any_pointer, link, many}
-use Rattle.rio_format.proofs.BuiltInLaws.{of_body}
-use Rattle.rio_format.proofs.ValueCases.{Each, by_cases, fold_Int, fold_Bits32, fold_Bits64, fold_Bool, fold_Text, fold_List, fold_Object, fold_Pointed, fold_Null, fold_Back, fold_Opaque}
+use Rattle.rio_format.specs.{Laws.{has_versions, versions_step}, Slots.{Field, Slot, body_fields, declared_body, fields_of, form_fields, kinded, based, flags, any_pointer, link, many}}
+use Rattle.rio_format.proofs.{BuiltInLaws.{of_body}, ValueCases.{Each, by_cases, fold_Int, fold_Bits32, fold_Bits64, fold_Bool, fold_Text, fold_List, fold_Object, fold_Pointed, fold_Null, fold_Back, fold_Opaque}}
 use Rattle.rio_format.proofs.{WrittenLists.{fittings}, WrittenValues.{fit_object, part_versions}}
 use Rattle.rio_model.proofs.ListDepth.{in_range}
 use Rattle.rio_step.proofs.GrowthLaws.{then_some}

@@ -3,7 +3,7 @@ use Rattle.std.specs.Prelude.{◌≡◌, ◌≤◌, ◌-◌, ◌+◌, ℕ, List,
 use Rattle.std.specs.List.{Contains, flat_map}
 use Rattle.rio_leaf.specs.declared.branch.BranchDef.{BranchDef}
 use Rattle.rio_chain.specs.Segments.{IsChain, Link}
-use Rattle.rio_basket.specs.Cut.{basket_with, firsts_from}
+use Rattle.rio_key.specs.Cut.{basket_with, firsts_from}
 use Rattle.rio_tree.specs.{Header.{has_offsets}, declared.basket_at.BasketAt.{BasketAt}}
 use Rattle.rio_machine.specs.State.{State}
 use Rattle.rio_state.specs.{Closing.{held_with}, KeyedRecords.{begins_at, keyed_records, record_at, top_keys}, Reads.{AreRecordsOf}, TreeLengths.{PendingRows}, Trees.{RecordsAt, are_named_once}}

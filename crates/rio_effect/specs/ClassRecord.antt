@@ -1,8 +1,7 @@
 -- The record of the class list as a class command writes it.
 use Rattle.std.specs.Prelude.{ℕ, ◌+◌, List, codes, length, Option, Some, None}
-use Rattle.rio_types.specs.declared.class.ClassDef.{ClassDef}
+use Rattle.rio_format.specs.{declared.class.ClassDef.{ClassDef}, WrittenBytes.{written_list}}
 use Rattle.rio_key.specs.declared.head.KeyHead.{KeyHead}
-use Rattle.rio_format.specs.WrittenBytes.{written_list}
 use Rattle.rio_machine.specs.State.{State}
 use Rattle.rio_chain.specs.{Record.{key_size, new_key, record_bytes}, declared.key_words.KeyWords.{KeyWords}}
 use Rattle.rio_state.specs.KeyedRecords.{first_place}

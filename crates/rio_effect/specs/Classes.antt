@@ -1,7 +1,7 @@
 -- What the record of the class list that a class command writes makes of what a file reads as, of the keys that are kept beside it,
 -- and of what its close needs.
 use Rattle.std.specs.{Prelude.{◌≡◌, ◌<◌, ◌≤◌, ℕ, ◌+◌, ◌^◌, List, length, map, true, false, Option, Some, None}, List.{Contains, list_all}, Option.{option_map_or}}
-use Rattle.rio_types.specs.declared.class.ClassDef.{ClassDef}
+use Rattle.rio_format.specs.declared.class.ClassDef.{ClassDef}
 use Rattle.rio_key.specs.declared.head.KeyHead.{KeyHead}
 use Rattle.rio_model.specs.{Described.{is_described}, StateClasses.{StateClasses}, Stated.{is_stated_class}}
 use Rattle.rio_machine.specs.{Rows.{row_fits}, State.{State}, declared.command.Command.TheVariants.{Class}}

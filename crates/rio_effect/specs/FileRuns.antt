@@ -9,7 +9,7 @@ use Rattle.std.specs.Prelude.{◌≡◌, ℕ, List, [], ◌∷◌, map, sum, Opt
 use Rattle.std.specs.{FinMap.{get}, List.{find}, Option.{option_map_or}}
 use Rattle.rio_dir.specs.Table.{is_at_cycle}
 use Rattle.rio_chain.specs.{Placing.{file_end, place_of, with_segment, with_segments}, Releasing.{without_segment}, Segments.{Link, segment_of}}
-use Rattle.rio_types.specs.declared.class.ClassDef.{ClassDef}
+use Rattle.rio_format.specs.declared.class.ClassDef.{ClassDef}
 use Rattle.rio_chain.specs.declared.segment.Segment.{Segment}
 use Rattle.rio_machine.specs.State.{State, names_tree}
 use Rattle.rio_machine.specs.declared.command.Command.{Command, TheVariants.{Bad, Class, Put, Batch, Delete, Tree, Fill, Save, Get, Scan, Ls}}

@@ -2,8 +2,7 @@
 use Rattle.std.specs.{Prelude.{◌≡◌, ◌<◌, ◌≤◌, ℕ, ◌+◌, ◌^◌, List, [], drop, length, map, not, true, false, Option, Some, None, Ok, unwrap_or}, FinMap.{empty, entries, get}}
 use Rattle.std.specs.{List.{Contains, filter, find, sum_by}}
 use Rattle.rio_num.specs.Word.{is_item_text}
-use Rattle.rio_value.specs.declared.value.Value.{Value}
-use Rattle.rio_format.specs.Objects.{value_at}
+use Rattle.rio_format.specs.{declared.value.Value.{Value}, Objects.{value_at}}
 use Rattle.rio_key.specs.{Written.{written_key}, declared.head.KeyHead.{KeyHead}}
 use Rattle.rio_head.specs.{Form.{is_large_head}, Head.{head_at}, declared.head.FileHead.{FileHead}}
 use Rattle.rio_model.specs.StateClasses.{StateClasses}

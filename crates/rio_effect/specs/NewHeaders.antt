@@ -1,7 +1,7 @@
 -- What the header of a new tree, and that of a save, makes of the keys that are kept beside a file, and of what its close needs.
 use Rattle.std.specs.Prelude.{◌≡◌, ◌≤◌, ℕ, ◌+◌, ◌*◌, List, [], length, map, true, Some}
 use Rattle.rio_leaf.specs.declared.branch.BranchDef.{BranchDef}
-use Rattle.rio_types.specs.declared.class.ClassDef.{ClassDef}
+use Rattle.rio_format.specs.declared.class.ClassDef.{ClassDef}
 use Rattle.rio_num.specs.Word.{is_item_text}
 use Rattle.rio_key.specs.declared.head.KeyHead.{KeyHead}
 use Rattle.rio_chain.specs.{Changes.{with_record}, Placing.{IsPlaceFor}, Segments.{IsChain, Link, segment_of}}

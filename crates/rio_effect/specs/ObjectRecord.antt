@@ -1,8 +1,6 @@
 -- The record of an object as a put writes it.
 use Rattle.std.specs.Prelude.{ℕ, ◌+◌, List, [], ◌∷◌, length, map, sum, unwrap_or}
-use Rattle.rio_types.specs.declared.class.ClassDef.{ClassDef}
-use Rattle.rio_value.specs.declared.value.Value.{Value}
-use Rattle.rio_format.specs.Written.{written_form}
+use Rattle.rio_format.specs.{declared.class.ClassDef.{ClassDef}, declared.value.Value.{Value}, Written.{written_form}}
 use Rattle.rio_key.specs.declared.head.KeyHead.{KeyHead}
 use Rattle.rio_chain.specs.{Record.{key_size, new_key, record_bytes}, declared.key_words.KeyWords.{KeyWords}}
 use Rattle.rio_machine.specs.State.{State, next_cycle}

@@ -2,11 +2,11 @@
 -- entries of pending rows as the rows.
 use Rattle.std.specs.Prelude.{◌≡◌, ◌<◌, ℕ, List, [], ◌∷◌, length, map, true, false, ◌||◌, Some}
 use Rattle.rio_leaf.specs.declared.branch.BranchDef.{BranchDef}
-use Rattle.rio_types.specs.declared.class.ClassDef.{ClassDef}
+use Rattle.rio_format.specs.declared.class.ClassDef.{ClassDef}
 use Rattle.rio_chain.specs.{Changes.{with_record}, Segments.{IsRecord, Link}}
 use Rattle.rio_model.specs.StateClasses.{StateClasses}
 use Rattle.rio_machine.specs.{Rows.{entries_of}, State.{Row}}
-use Rattle.rio_basket.specs.{Cut.{Cut, firsts_from}, Open.{have_one_length}, Record.{FitsBasketRecord}}
+use Rattle.rio_key.specs.{Cut.{Cut, firsts_from}, OpenBasket.{have_one_length}, BasketRecord.{FitsBasketRecord}}
 use Rattle.rio_tree.specs.{declared.basket_at.BasketAt.{BasketAt}, declared.head.Branch.{Branch}}
 use Rattle.rio_state.specs.{KeyedRecords.{begins_at, keyed_records, record_at}, OneMore.{KeyIsRead}, Trees.{RecordsAt}}
 use Rattle.rio_machine.specs.RowEntries.{fitting_row}

@@ -2,9 +2,9 @@
 -- stand in the baskets that it names more.
 use Rattle.std.specs.Prelude.{◌≡◌, ℕ, ◌+◌, ◌<◌, List, [], ◌∷◌, ◌++◌, length, map, Bool, Some, None, Ok}
 use Rattle.std.specs.List.{All}
-use Rattle.rio_types.specs.declared.class.ClassDef.{ClassDef}
+use Rattle.rio_format.specs.declared.class.ClassDef.{ClassDef}
 use Rattle.rio_machine.specs.{Rows.{entries_of}, State.{Row}}
-use Rattle.rio_basket.specs.{Cut.{cut_into_baskets, firsts_from}, Entries.{entries_in}}
+use Rattle.rio_key.specs.{Cut.{cut_into_baskets, firsts_from}, BasketEntries.{entries_in}}
 use Rattle.rio_tree.specs.{WrittenLaws.{AreReadableBranches, stated_defs}, declared.basket_at.BasketAt.{BasketAt}, declared.head.Branch.{Branch}, declared.head.TreeHead.{TreeHead}}
 use Rattle.rio_state.specs.{TreeLengths.{entries_by_branch}, Trees.{RecordsAt, basket_bytes, saved_rows}}
 use Rattle.rio_machine.specs.RowEntries.{fitting_row}

@@ -8,10 +8,10 @@
 use Rattle.std.specs.Prelude.{ℕ, ◌+◌, ◌-◌, List, [], ◌∷◌, ◌++◌, length, map, ◌==◌, Option, is_some, if◌then◌else◌}
 use Rattle.std.specs.{List.{filter, find, flat_map, list_any}, Option.{option_map_or}, Str.{bytes_eq}}
 use Rattle.rio_leaf.specs.declared.branch.BranchDef.{BranchDef}
-use Rattle.rio_types.specs.declared.class.ClassDef.{ClassDef}
+use Rattle.rio_format.specs.declared.class.ClassDef.{ClassDef}
 use Rattle.rio_chain.specs.Segments.{Link}
 use Rattle.rio_machine.specs.{Rows.{entries_of}, State.{Row, State, Tree}}
-use Rattle.rio_basket.specs.{Cut.{Cut}, Open.{takes_entry}}
+use Rattle.rio_key.specs.{Cut.{Cut}, OpenBasket.{takes_entry}}
 use Rattle.rio_tree.specs.{declared.basket_at.BasketAt.{BasketAt}, declared.head.TreeHead.{TreeHead}}
 use Rattle.rio_state.specs.{Contents.{file_classes}, KeyedRecords.{KeyedRecord, info_key, keyed_records, top_keys, tree_records}, TreeLengths.{cuts_of}, Trees.{basket_places, header_in}}
 use Rattle.rio_step.specs.Refusing.{fill_row, rows_of_tree}

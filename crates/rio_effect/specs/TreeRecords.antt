@@ -2,11 +2,9 @@
 use Rattle.std.specs.Prelude.{ℕ, ℤ, pos, List, [], ◌∷◌, ◌++◌, codes, length, Bool, None}
 use Rattle.std.specs.Option.{option_map_or}
 use Rattle.rio_leaf.specs.{Stated.{leaves_of}, declared.branch.BranchDef.{BranchDef}, declared.branch.Shape.{Shape, TheVariants.{Leaves, Class}}}
-use Rattle.rio_types.specs.{Classes.{newest_in}, declared.class.ClassDef.{ClassDef}}
-use Rattle.rio_format.specs.{TreeClasses.{tree_classes}, Written.{written_form}}
-use Rattle.rio_key.specs.declared.head.KeyHead.{KeyHead}
+use Rattle.rio_format.specs.{Classes.{newest_in}, declared.class.ClassDef.{ClassDef}, TreeClasses.{tree_classes}, Written.{written_form}}
+use Rattle.rio_key.specs.{declared.head.KeyHead.{KeyHead}, OpenBasket.{OpenBasket}, BasketRecord.{basket_data, basket_key, basket_key_length, basket_record, basket_record_length}}
 use Rattle.rio_chain.specs.{Record.{key_size, new_key, record_bytes}, declared.key_words.KeyWords.{KeyWords}}
-use Rattle.rio_basket.specs.{Open.{OpenBasket}, Record.{basket_data, basket_key, basket_key_length, basket_record, basket_record_length}}
 use Rattle.rio_tree.specs.{Header.{has_offsets}, WrittenLaws.{counting_branches}, WrittenTree.{tree_value_of}}
 use Rattle.rio_tree.specs.{declared.basket_at.BasketAt.{BasketAt}, declared.head.Branch.{Branch}, declared.head.TreeHead.{TreeHead}}
 use Rattle.rio_effect.specs.ObjectRecord.{object_words}

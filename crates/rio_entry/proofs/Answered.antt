@@ -3,9 +3,7 @@ use Rattle.std.proofs.Common.{◌≡◌, ℕ, ◌<◌, ◌≤◌, Bool, true, fa
 use Rattle.std.proofs.lemmas.Bool.{le-ltb, lt-ltb, ltb-false}
 use Rattle.rio_num.proofs.ReadLaws.{ok_is}
 use Rattle.rio_leaf.specs.declared.branch.Shape.{Shape}
-use Rattle.rio_format.specs.WrittenBytes.{length_limit}
-use Rattle.rio_types.specs.declared.class.ClassDef.{ClassDef}
-use Rattle.rio_value.specs.declared.value.Value.{Value}
+use Rattle.rio_format.specs.{WrittenBytes.{length_limit}, declared.class.ClassDef.{ClassDef}, declared.value.Value.{Value}}
 use Rattle.rio_entry.specs.Entries.{branch_entry_bytes, entry_fits, entry_written, within_limit}
 use Rattle.rio_machine.specs.declared.entry_fault.EntryFault.{EntryFault, TheVariants.{BadRow, TooLarge}}
 

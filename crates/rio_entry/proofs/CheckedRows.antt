@@ -2,10 +2,9 @@
 -- its values what is made of them.
 use Rattle.std.proofs.Common.{◌≡◌, true≢false, ℕ, zero, suc, List, [], ◌∷◌, ◌++◌, length, map, slice_get, slice_set, Bool, false, is_some, Option, Some, None, unwrap_or, ℤ, refl, sym, ap, subst, ◌∙◌, replicate}
 use Rattle.std.specs.{Prelude.{if◌then◌else◌}, List.{flat_map, list_any}, Option.{option_or}, Str.{bytes_eq}}
-use Rattle.rio_types.specs.declared.class.ClassDef.{ClassDef}
+use Rattle.rio_format.specs.{declared.class.ClassDef.{ClassDef}, declared.value.Value.{Value}}
 use Rattle.rio_leaf.specs.{declared.leaf.Dim.{Dim, TheVariants.{One, Fixed, Counted}}, declared.leaf.Leaf.{Leaf}}
 use Rattle.rio_tree.specs.{declared.head.Branch.{Branch}, declared.refusal.BranchRefusal.{BranchRefusal, TheVariants.{BadEntry}}, Header.{branch_leaves}}
-use Rattle.rio_value.specs.declared.value.Value.{Value}
 use Rattle.rio_entry.specs.Leaves.{last_number, number_alone, said_by}
 use Rattle.rio_entry.proofs.LeafNumbers.{integer_says}
 use Rattle.rio_entry.specs.{declared.tree_row.TreeRow.{TreeRow}, Counters.{counts_if_any, leaf_count, number_in_branch, number_said, values_or_none}}

@@ -3,11 +3,9 @@ use Rattle.std.proofs.Common.{◌≡◌, ◌&&◌, ℕ, List, [], ◌∷◌, Boo
 use Rattle.std.proofs.lemmas.List.{append-nil}
 use Rattle.std.specs.Prelude.{is_some}
 use Rattle.rio_leaf.specs.declared.branch.Shape.TheVariants.{Class}
-use Rattle.rio_buffer.specs.ReaderState.{no_words}
-use Rattle.rio_format.specs.{Fits.{Labels, fits, fitting_of}, Slots.{kinded}, Written.{writing_of, written_form}}
+use Rattle.rio_format.specs.{ReaderState.{no_words}, Fits.{Labels, fits, fitting_of}, Slots.{kinded}, Written.{writing_of, written_form}, declared.class.ClassDef.{ClassDef}, declared.kind.Kind.TheVariants.{Inline}}
 use Rattle.rio_format.proofs.WrittenPointers.{inline_class}
-use Rattle.rio_types.specs.{declared.class.ClassDef.{ClassDef}, declared.kind.Kind.TheVariants.{Inline}}
-use Rattle.rio_value.specs.declared.value.Value.{Value}
+use Rattle.rio_format.specs.declared.value.Value.{Value}
 use Rattle.rio_entry.specs.Entries.{branch_entry_bytes, entry_fits}
 
 module _ (classes : List ClassDef) (class : List ℕ) (counts : List Value) (v : Value) where

@@ -2,9 +2,8 @@
 use Rattle.std.proofs.{Common.{◌≡◌, ℕ, ℤ, ◌+◌, ◌≤◌, List, [], ◌∷◌, length, map, drop, slice_get, Option, Some, None, refl, sym, ap, ◌∙◌}, lemmas.List.{drop_all}}
 use Rattle.std.specs.{Prelude.{pos, unwrap_or}, Map.{lookup}, Str.{bytes_eq}}
 use Rattle.rio_leaf.specs.declared.{leaf.Dim.{Dim, TheVariants.{One, Fixed, Counted}}, leaf.Leaf.{Leaf}}
-use Rattle.rio_format.specs.Bodies.{Counters}
+use Rattle.rio_format.specs.{Bodies.{Counters}, declared.value.Value.{Value, Int}}
 use Rattle.rio_machine.specs.Rows.{leaf_column}
-use Rattle.rio_value.specs.declared.value.Value.{Value, Int}
 use Rattle.rio_entry.specs.Leaves.{last_number, numbers_after, numbers_with}
 use Rattle.rio_machine.specs.RowEntries.{count_before, counts_before}
 use Rattle.rio_tree.specs.{Header.{branch_leaves}, declared.head.Branch.{Branch}}

@@ -3,8 +3,7 @@ use Rattle.std.proofs.Common.{◌≡◌, ℕ, zero, suc, ◌+◌, ◌<◌, List,
 use Rattle.std.proofs.{lemmas.List.{append_assoc, drop-drop, drop_more, take_more}, lemmas.Slice.Eq.{bytes_eq-Decides}}
 use Rattle.std.specs.{Prelude.{ℤ, unwrap_or}, Map.{lookup}, Option.{option_map}, Str.{bytes_eq}}
 use Rattle.rio_leaf.specs.declared.{leaf.Dim.{Dim, TheVariants.{One, Fixed, Counted}}, leaf.Leaf.{Leaf}}
-use Rattle.rio_format.specs.Bodies.{Counters}
-use Rattle.rio_value.specs.{Accessors.{number_in}, declared.value.Value.{Value, out-Value}}
+use Rattle.rio_format.specs.{Bodies.{Counters}, Accessors.{number_in}, declared.value.Value.{Value, out-Value}}
 use Rattle.rio_entry.specs.Counting.{Places, counter_among, counter_at, counters_from, places_after}
 use Rattle.rio_machine.specs.Entries.{given_count, said_count}
 use Rattle.rio_entry.specs.Leaves.{numbers_after, numbers_with}

@@ -4,17 +4,13 @@ use Rattle.std.proofs.lemmas.Bool.{and_parts}
 use Rattle.std.specs.List.{list_all}
 use Rattle.rio_leaf.specs.declared.branch.Shape.{Shape}
 use Rattle.rio_num.specs.{Meanings.{Standing, read}}
-use Rattle.rio_types.specs.declared.class.ClassDef.{ClassDef}
-use Rattle.rio_value.specs.declared.value.Value.{Value}
-use Rattle.rio_buffer.specs.{Frames.{Step}, ReaderState.{WordsMet, no_words, standing}}
-use Rattle.rio_format.specs.{Bodies.{Counters}, Objects.{depth_limit, object_of}}
-use Rattle.rio_format.proofs.ValueCases.{Each}
+use Rattle.rio_format.specs.{declared.class.ClassDef.{ClassDef}, declared.value.Value.{Value}, Frames.{Step}, ReaderState.{WordsMet, no_words, standing}, Bodies.{Counters}, Objects.{depth_limit, object_of}}
+use Rattle.rio_format.proofs.{ValueCases.{Each}, AllRead.{AllRead}, ObjectStays.{kind_stays, object_stays}, Stays.{Stays, behind_gives, behind_stays, done_gives, made_stays, same_stays}}
 use Rattle.rio_machine.specs.Rows.{Column, leaf_column, object_column, leaf_kind, leaf_numbers_behind, shape_columns}
 use Rattle.rio_entry.specs.Reading.{SpellsEntry}
 use Rattle.rio_machine.specs.Entries.{counters_for, given_count, column_value, columns_values, entry_in, entry_values, only_values}
 use Rattle.rio_machine.specs.declared.entry_fault.EntryFault.{EntryFault, TheVariants.{BadEntry}}
 use Rattle.rio_format.specs.Growth.{PicksStay, is_all_read}
-use Rattle.rio_format.proofs.{AllRead.{AllRead}, ObjectStays.{kind_stays, object_stays}, Stays.{Stays, behind_gives, behind_stays, done_gives, made_stays, same_stays}}
 use Rattle.rio_entry.specs.Growth.{EntryStays, SpelledEntryStays}
 
 pub each_of : (row : List Value) → list_all is_all_read row ≡ true → Each AllRead row

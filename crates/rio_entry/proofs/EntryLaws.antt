@@ -6,12 +6,10 @@ use Rattle.rio_num.specs.{At.{AreBytes, end_place}, Meanings.{Breaks, Spells, re
 use Rattle.rio_num.proofs.Agree as Agree
 use Rattle.rio_num.proofs.{Intro.{IsSo, done_is, ends_with, so_by, still_then}, ReadLaws.{ok_is}, Cases.{nothing_left}}
 use Rattle.rio_leaf.specs.declared.branch.Shape.{Shape, TheVariants.{Leaves, Class}}
-use Rattle.rio_buffer.specs.{Frames.{Step}, ReaderState.{ReaderState, WordsMet, no_words, standing}, declared.fault.ObjFault.{ObjFault}}
-use Rattle.rio_format.specs.{Fits.{fits}, Laws.{has_versions}, Objects.{SpellsObject, depth_limit, object_of}, Written.{written_form}}
-use Rattle.rio_format.specs.WrittenBytes.{length_limit}
+use Rattle.rio_format.specs.{Frames.{Step}, ReaderState.{ReaderState, WordsMet, no_words, standing}, declared.fault.ObjFault.{ObjFault}}
+use Rattle.rio_format.specs.{Fits.{fits}, Laws.{has_versions}, Objects.{SpellsObject, depth_limit, object_of}, Written.{written_form}, WrittenBytes.{length_limit}, declared.class.ClassDef.{ClassDef}}
 use Rattle.rio_format.proofs.{ObjectLaws.{not_both}, WrittenValues.{written_is_spelled}}
-use Rattle.rio_types.specs.declared.class.ClassDef.{ClassDef}
-use Rattle.rio_value.specs.{Depth.{depth_of}, declared.value.Value.{Value}}
+use Rattle.rio_format.specs.{Depth.{depth_of}, declared.value.Value.{Value}}
 use Rattle.rio_entry.specs.Entries.{branch_entry_bytes, entry_fits}
 use Rattle.rio_machine.specs.Entries.{entry_fault}
 use Rattle.rio_entry.specs.{Laws.{EntriesHaveOneAnswer, WrittenEntriesAreRead, can_be_read_back}, Leaves.{leaves_bytes, leaves_fit}}

@@ -2,7 +2,7 @@
 use Rattle.std.proofs.Common.{◌≡◌, true≢false, true, is_some, ℕ, List, Option, Some, None, refl, sym, ap, ◌∙◌}
 use Rattle.std.specs.Option.{option_or}
 use Rattle.rio_num.proofs.Cases.{or_none}
-use Rattle.rio_types.specs.declared.class.ClassDef.{ClassDef}
+use Rattle.rio_format.specs.declared.class.ClassDef.{ClassDef}
 use Rattle.rio_tree.specs.{declared.head.Branch.{Branch}, declared.refusal.BranchRefusal.{BranchRefusal, TheVariants.{NoCounter}}}
 use Rattle.rio_entry.specs.{Counters.{counters_are_read}, Refusals.{branch_refusal, file_refusal, refused_first, refused_unless}}
 use Rattle.rio_entry.specs.{StoredEntries.{baskets_refusal}, Sweeps.{refusal_before}}

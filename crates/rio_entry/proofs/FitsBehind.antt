@@ -2,11 +2,9 @@
 use Rattle.std.proofs.Common.{◌≡◌, ◌&&◌, ◌≢◌, ℕ, zero, suc, ◌+◌, ◌<◌, ◌≤◌, Bool, true, false, List, [], ◌∷◌, ◌++◌, length, map, min, take, drop, get_or, refl, sym, ap, ◌∙◌, arith}
 use Rattle.std.proofs.lemmas.List.{drop_all}
 use Rattle.rio_leaf.specs.declared.leaf.Leaf.{Leaf}
-use Rattle.rio_format.specs.{Bodies.{Counters}}
+use Rattle.rio_format.specs.{Bodies.{Counters}, declared.class.ClassDef.{ClassDef}, declared.value.Value.{Value}}
 use Rattle.rio_machine.specs.Rows.{Column, leaf_column, column_slot, columns_fit, columns_of, leaf_kind, leaf_numbers_after, leaf_numbers_behind, shape_columns, stands_in}
 use Rattle.rio_tree.specs.{WrittenLaws.{stated_defs}, declared.head.Branch.{Branch}}
-use Rattle.rio_types.specs.declared.class.ClassDef.{ClassDef}
-use Rattle.rio_value.specs.declared.value.Value.{Value}
 use Rattle.rio_entry.specs.Leaves.{kind_fits}
 use Rattle.rio_entry.proofs.{Counting.{left_begins}, LeafKinds.{kind_leafy}, Singles.{stands_is}}
 

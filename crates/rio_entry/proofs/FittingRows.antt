@@ -3,15 +3,11 @@ use Rattle.std.proofs.Common.{◌≡◌, ℕ, List, [], ◌∷◌, ◌++◌, tru
 use Rattle.std.proofs.lemmas.Bool.{and_parts}
 use Rattle.rio_leaf.specs.declared.branch.BranchDef.{BranchDef}
 use Rattle.rio_num.proofs.{Cases.{some_of}, ReadLaws.{bind_is, bind_ok}}
-use Rattle.rio_types.specs.declared.class.ClassDef.{ClassDef}
-use Rattle.rio_value.specs.declared.value.Value.{Value}
-use Rattle.rio_format.specs.{Bodies.{Counters}, Fits.{fitting_of}, Slots.{Slot}}
-use Rattle.rio_format.proofs.ValueCases.{Each}
+use Rattle.rio_format.specs.{declared.class.ClassDef.{ClassDef}, declared.value.Value.{Value}, Bodies.{Counters}, Fits.{fitting_of}, Slots.{Slot}, Growth.{PicksStay}}
+use Rattle.rio_format.proofs.{ValueCases.{Each}, AllRead.{AllRead, each_back, each_front}, FittingRead.{is_read}, Picks.{later_leave_picks}}
 use Rattle.rio_machine.specs.Rows.{Column, column_slot, columns_fit, columns_of, leaf_numbers_behind, row_fits, stands_in}
 use Rattle.rio_machine.specs.declared.entry_fault.EntryFault.{EntryFault}
 use Rattle.rio_machine.specs.RowEntries.{branch_values, numbers_behind, row_from}
-use Rattle.rio_format.specs.Growth.{PicksStay}
-use Rattle.rio_format.proofs.{AllRead.{AllRead, each_back, each_front}, FittingRead.{is_read}, Picks.{later_leave_picks}}
 use Rattle.rio_entry.specs.Growth.{FittingRowStays}
 use Rattle.rio_entry.proofs.EntriesStay.{entry_kept}
 

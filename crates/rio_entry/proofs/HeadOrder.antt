@@ -3,7 +3,7 @@ use Rattle.std.proofs.Common.{◌≡◌, ℕ, ℤ, pos, List, [], ◌∷◌, ◌
 use Rattle.std.proofs.lemmas.{Bool.Decides.{Decides-int_eq}, List.Elements.{All-append, All-cons, All-nil}}
 use Rattle.std.specs.{List.{All}, Option.{ok_or}, Ordering.{int_eq}, Prelude.{codes}}
 use Rattle.rio_num.proofs.ReadLaws.{bind_ok}
-use Rattle.rio_value.specs.declared.value.Value.{Value}
+use Rattle.rio_format.specs.declared.value.Value.{Value}
 use Rattle.rio_tree.specs.{BranchMembers.{BranchSaid, class_version_said, leaf_items}, Header.{branch_in, branch_known, branches_from, entries_member, entries_said, known_branch, met_behind, or_refused, tree_head_in}}
 use Rattle.rio_tree.specs.{HeaderLeaves.{LeavesMet, LeavesSaid, name_said, no_leaves_met}, Labels.{ObjectLabels, labels_in, object_behind}, Members.{pointers_member}}
 use Rattle.rio_tree.specs.Refusals.{are_in_order, leaves_from, listed_baskets, no_leaves, number_baskets, readable_branch, unless_refused}

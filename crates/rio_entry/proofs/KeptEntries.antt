@@ -4,12 +4,10 @@ use Rattle.std.specs.{Prelude.{ℤ, pos, IfOk}, Result.{result_map_both}}
 use Rattle.rio_num.specs.{Answers.{GivesUnless}, At.{AreBytes}, Meanings.{read}}
 use Rattle.rio_num.proofs.ReadLaws.{ok_is}
 use Rattle.rio_leaf.specs.declared.branch.Shape.{Shape, TheVariants.{Class}}
-use Rattle.rio_buffer.specs.{Frames.{Step}, ReaderState.{ReaderState, no_words, standing}, declared.fault.ObjFault.{ObjFault}}
-use Rattle.rio_format.specs.Objects.{depth_limit, object_of}
+use Rattle.rio_format.specs.{Frames.{Step}, ReaderState.{ReaderState, no_words, standing}, declared.fault.ObjFault.{ObjFault}, Objects.{depth_limit, object_of}, declared.class.ClassDef.{ClassDef}}
 use Rattle.rio_read.specs.Passing.{pass_of}
 use Rattle.rio_read.proofs.Steps.{step_as, step_as-err, step_as-ok, step_as-twice}
-use Rattle.rio_types.specs.declared.class.ClassDef.{ClassDef}
-use Rattle.rio_value.specs.declared.value.Value.{Value, Int}
+use Rattle.rio_format.specs.declared.value.Value.{Value, Int}
 use Rattle.rio_entry.specs.{Leaves.{number_alone, numbers_of_values}, Reading.{BreaksEntry, SpellsEntry}}
 use Rattle.rio_machine.specs.Entries.{columns_values, entry_in, entry_values, only_values}
 use Rattle.rio_machine.specs.declared.entry_fault.EntryFault.{EntryFault, TheVariants.{BadEntry, NoMemory}}

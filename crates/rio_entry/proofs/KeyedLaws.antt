@@ -6,7 +6,7 @@ use Rattle.rio_key.specs.declared.head.KeyHead.{KeyHead}
 use Rattle.rio_num.specs.Reading.{some_if}
 use Rattle.rio_machine.specs.State.{Row}
 use Rattle.rio_tree.specs.{Index.{basket_counts}, WrittenLaws.{stated_defs}, declared.basket_at.BasketAt.{BasketAt}, declared.head.Branch.{Branch}, declared.head.TreeHead.{TreeHead}}
-use Rattle.rio_types.specs.declared.class.ClassDef.{ClassDef}
+use Rattle.rio_format.specs.declared.class.ClassDef.{ClassDef}
 use Rattle.rio_tree.specs.SavedEntries.{BasketBytes, all_there, branch_entries, counted_entries, entries_at, entries_of_baskets, rows_by}
 use Rattle.rio_entry.specs.SavedRows.{file_baskets, has_basket, has_baskets, keyed_baskets, saved_rows}
 use Rattle.rio_machine.specs.RowEntries.{fitting_row}

@@ -1,7 +1,7 @@
 -- The number of the last leaf of a name, one leaf on.
 use Rattle.std.proofs.Common.{◌≡◌, ℕ, ℤ, ◌+◌, ◌<◌, List, [], ◌∷◌, length, drop, get_or, Option, refl, sym, ap, ◌∙◌}
 use Rattle.rio_leaf.specs.declared.leaf.Leaf.{Leaf}
-use Rattle.rio_value.specs.declared.value.Value.{Value}
+use Rattle.rio_format.specs.declared.value.Value.{Value}
 use Rattle.rio_entry.specs.Leaves.{last_number}
 use Rattle.rio_entry.proofs.LeafBytes.{drop_next}
 use Rattle.rio_entry.specs.Lanes.{number_with}

@@ -2,11 +2,8 @@
 use Rattle.std.proofs.{Common.{◌≡◌, ◌&&◌, ℕ, zero, suc, ◌+◌, ◌<◌, ◌≤◌, List, [], ◌∷◌, ◌++◌, length, map, take, drop, Bool, true, false, refl, sym, ap, ◌∙◌, slice_index_or, arith}, lemmas.Bool.{and_parts}}
 use Rattle.std.proofs.lemmas.List.{drop-drop, drop_all, length-append, length-take, take_more}
 use Rattle.rio_leaf.specs.declared.leaf.Leaf.{Leaf}
-use Rattle.rio_buffer.specs.ReaderState.{WordsMet, no_words}
-use Rattle.rio_format.specs.{Bodies.{Counters}, Slots.{kinded}, Written.{writing_of}}
+use Rattle.rio_format.specs.{ReaderState.{WordsMet, no_words}, Bodies.{Counters}, Slots.{kinded}, Written.{writing_of}, declared.class.ClassDef.{ClassDef}, declared.value.Value.{Value}}
 use Rattle.rio_machine.specs.Rows.{leaf_column, letter_kind}
-use Rattle.rio_types.specs.declared.class.ClassDef.{ClassDef}
-use Rattle.rio_value.specs.declared.value.Value.{Value}
 use Rattle.rio_entry.specs.Entries.{values_bytes, values_fit}
 use Rattle.rio_machine.specs.Entries.{counter_saying, given_count, said_count}
 use Rattle.rio_entry.specs.Leaves.{entry_kind, kind_fits, leaves_bytes, leaves_fit, numbers_after, numbers_with, value_bytes}

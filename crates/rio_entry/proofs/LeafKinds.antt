@@ -2,9 +2,8 @@
 use Rattle.std.proofs.Common.{◌≡◌, ℕ, List, [], ◌∷◌, Bool, true, false, cond, Option, Some, None, refl, sym, ap, subst}
 use Rattle.std.specs.{Prelude.{ℤ, pos, negsuc, codes}, Map.{lookup}, Str.{bytes_eq}}
 use Rattle.rio_leaf.specs.{declared.leaf.Dim.{Dim, TheVariants.{One, Fixed as Several, Counted}}, declared.leaf.Leaf.{Leaf}}
-use Rattle.rio_format.specs.Bodies.{Counters}
+use Rattle.rio_format.specs.{Bodies.{Counters}, declared.kind.Kind.{Kind, TheVariants.{Plain, Fixed, Text as Texted, Other}}, declared.kind.Primitive.{Primitive}}
 use Rattle.rio_machine.specs.Rows.{counted_leaf_kind, kind_of_nothing, leaf_kind, letter_kind, sized_kind}
-use Rattle.rio_types.specs.{declared.kind.Kind.{Kind, TheVariants.{Plain, Fixed, Text as Texted, Other}}, declared.kind.Primitive.{Primitive}}
 use Rattle.rio_entry.specs.Leaves.{without_number}
 use Rattle.rio_machine.specs.Entries.{counter_saying}
 use Rattle.rio_entry.proofs.Counting.{same_name}

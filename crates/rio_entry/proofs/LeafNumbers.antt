@@ -4,14 +4,12 @@ use Rattle.std.proofs.lemmas.List.{append-nil, drop_all, length-take}
 use Rattle.std.specs.Prelude.{ℤ}
 use Rattle.rio_leaf.specs.declared.leaf.Leaf.{Leaf}
 use Rattle.rio_num.specs.{Meanings.{read}, Reading.{◌>>=◌}}
-use Rattle.rio_buffer.specs.{Frames.{Step}, ReaderState.{ReaderState}, declared.fault.ObjFault.{ObjFault}}
-use Rattle.rio_format.specs.{Bodies.{Counters}, Objects.{depth_limit, kind_value, object_of}}
+use Rattle.rio_format.specs.{Frames.{Step}, ReaderState.{ReaderState}, declared.fault.ObjFault.{ObjFault}, Bodies.{Counters}, Objects.{depth_limit, kind_value, object_of}}
 use Rattle.rio_machine.specs.Rows.{leaf_column}
 use Rattle.rio_read.specs.Lists.{with_front}
 use Rattle.rio_read.proofs.{Each.{with_front-more}, Steps.{step_as, step_as-err, step_as-ok, step_as-twice, unkept}}
-use Rattle.rio_types.specs.{declared.class.ClassDef.{ClassDef}, declared.kind.Kind.{Kind}}
-use Rattle.rio_value.specs.{Accessors.{number_in}, declared.value.Value.{Value, Int, out-Value, out-roll-Value, TheVariants.{rolls-Int}}}
-use Rattle.rio_value.specs.declared.value.Value.TheOpen as layer
+use Rattle.rio_format.specs.{declared.class.ClassDef.{ClassDef}, declared.kind.Kind.{Kind}, Accessors.{number_in}, declared.value.Value.{Value, Int, out-Value, out-roll-Value, TheVariants.{rolls-Int}}}
+use Rattle.rio_format.specs.declared.value.Value.TheOpen as layer
 use Rattle.rio_entry.specs.Leaves.{entry_kind, kind_layout, number_alone, numbers_after, numbers_with, said_by, number_of_value, numbers_of_values}
 use Rattle.rio_machine.specs.Entries.{columns_values}
 use Rattle.rio_entry.proofs.{Counting.{left_begins, numbers_more}, LeafBytes.{drop_next}, LeafReads.{leaf_alone}}

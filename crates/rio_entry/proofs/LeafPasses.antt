@@ -4,15 +4,13 @@ use Rattle.std.proofs.lemmas.List.{drop_all}
 use Rattle.std.specs.Prelude.{ℤ}
 use Rattle.rio_leaf.specs.{Leaves.{is_counted_dim}, declared.leaf.Dim.{Dim, TheVariants.{One, Fixed, Counted}}, declared.leaf.Leaf.{Leaf}}
 use Rattle.rio_num.specs.{Layout.{times}, Meanings.{read}}
-use Rattle.rio_buffer.specs.{Frames.{Step}, ReaderState.{ReaderState}, declared.fault.ObjFault.{ObjFault}}
-use Rattle.rio_format.specs.{Bodies.{Counters}, Objects.{depth_limit, kind_value, number_value, numbers, object_of}}
-use Rattle.rio_value.specs.Accessors.{number_in}
-use Rattle.rio_value.specs.declared.value.Value.{Value, List as Items, Null, out-Value, out-roll-Value, TheVariants.{rolls-List, rolls-Null}}
+use Rattle.rio_format.specs.{Frames.{Step}, ReaderState.{ReaderState}, declared.fault.ObjFault.{ObjFault}, Bodies.{Counters}, Objects.{depth_limit, kind_value, number_value, numbers, object_of}, Accessors.{number_in}}
+use Rattle.rio_format.specs.declared.value.Value.{Value, List as Items, Null, out-Value, out-roll-Value, TheVariants.{rolls-List, rolls-Null}}
 use Rattle.rio_machine.specs.Rows.{leaf_column}
 use Rattle.rio_read.specs.Passing.{pass_of}
 use Rattle.rio_read.proofs.Steps.{step_as-err, step_as-ok, step_as-twice, unkept}
-use Rattle.rio_types.specs.{declared.class.ClassDef.{ClassDef}, declared.kind.Kind.{Kind}, declared.kind.Primitive.{Primitive}}
-use Rattle.rio_value.specs.declared.value.Value.TheOpen as layer
+use Rattle.rio_format.specs.{declared.class.ClassDef.{ClassDef}, declared.kind.Kind.{Kind}, declared.kind.Primitive.{Primitive}}
+use Rattle.rio_format.specs.declared.value.Value.TheOpen as layer
 use Rattle.rio_entry.specs.Bounds.{most_values}
 use Rattle.rio_machine.specs.Entries.{counter_saying}
 use Rattle.rio_entry.specs.Leaves.{entry_kind, is_any_counted, kind_layout, said_by, number_of_value}

@@ -3,11 +3,9 @@ use Rattle.std.proofs.Common.{◌≡◌, ℕ, ◌+◌, ◌<◌, ◌≤◌, List,
 use Rattle.std.proofs.lemmas.List.{append-nil, drop_all, length-take}
 use Rattle.rio_leaf.specs.declared.leaf.Leaf.{Leaf}
 use Rattle.rio_num.specs.Meanings.{read}
-use Rattle.rio_buffer.specs.{Frames.{Step}, ReaderState.{ReaderState}, declared.fault.ObjFault.{ObjFault}}
-use Rattle.rio_format.specs.{Bodies.{Counters}, Objects.{Objects, depth_limit, kind_value, object_of}}
+use Rattle.rio_format.specs.{Frames.{Step}, ReaderState.{ReaderState}, declared.fault.ObjFault.{ObjFault}, Bodies.{Counters}, Objects.{Objects, depth_limit, kind_value, object_of}}
 use Rattle.rio_machine.specs.Rows.{leaf_column}
-use Rattle.rio_types.specs.{declared.class.ClassDef.{ClassDef}, declared.kind.Kind.{Kind, TheVariants.{Plain, Fixed, Text as Texted, Other}}}
-use Rattle.rio_value.specs.declared.value.Value.{Value}
+use Rattle.rio_format.specs.{declared.class.ClassDef.{ClassDef}, declared.kind.Kind.{Kind, TheVariants.{Plain, Fixed, Text as Texted, Other}}, declared.value.Value.{Value}}
 use Rattle.rio_read.specs.Lists.{with_front}
 use Rattle.rio_read.proofs.Each.{with_front-more}
 use Rattle.rio_entry.specs.Leaves.{entry_kind, kind_layout, numbers_after, numbers_with}

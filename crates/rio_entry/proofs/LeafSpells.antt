@@ -6,17 +6,13 @@ use Rattle.byteorder.specs.Endian.{big_bytes}
 use Rattle.rio_num.specs.{Layout.{each, text, times}, Text.{SpellsText, long_form, short_form, text_bytes}}
 use Rattle.rio_num.proofs.Intro.{IsSo, both_are, done_is, ends_with, number_then, so_by}
 use Rattle.rio_leaf.specs.{declared.leaf.Dim.{Dim, TheVariants.{One, Fixed as Several, Counted}}, declared.leaf.Leaf.{Leaf}}
-use Rattle.rio_buffer.specs.{ReaderState.{WordsMet}, declared.fault.ObjFault.TheVariants.{Short}}
-use Rattle.rio_format.specs.{Bodies.{Counters}, Objects.{Objects, depth_limit, kind_value, number_value, numbers, object_of, text_value}}
-use Rattle.rio_format.specs.Prims.{value_of_prim, width_of}
-use Rattle.rio_format.proofs.{Composed.{IsNumber}, ValueCases.{Each, Steps, by_cases}}
-use Rattle.rio_format.proofs.WrittenNumbers.{bits32_number, bits64_number, int_number, truth_number}
+use Rattle.rio_format.specs.{ReaderState.{WordsMet}, declared.fault.ObjFault.TheVariants.{Short}, Bodies.{Counters}, Objects.{Objects, depth_limit, kind_value, number_value, numbers, object_of, text_value}}
+use Rattle.rio_format.specs.{Prims.{value_of_prim, width_of}, declared.class.ClassDef.{ClassDef}, declared.kind.Kind.{Kind, TheVariants.{Plain, Fixed, Text as Texted}}}
+use Rattle.rio_format.proofs.{Composed.{IsNumber}, ValueCases.{Each, Steps, by_cases}, WrittenNumbers.{bits32_number, bits64_number, int_number, truth_number}}
 use Rattle.rio_machine.specs.Rows.{counted_leaf_kind, kind_of_nothing, leaf_column, leaf_kind, letter_kind, sized_kind}
-use Rattle.rio_types.specs.{declared.class.ClassDef.{ClassDef}, declared.kind.Kind.{Kind, TheVariants.{Plain, Fixed, Text as Texted}}}
-use Rattle.rio_types.specs.declared.kind.Primitive.{Primitive, TheVariants.{Bool as Boolean, F32, F64}}
-use Rattle.rio_value.specs.declared.value.Part.{Part}
-use Rattle.rio_value.specs.declared.value.Value.{Value, Int, Bits32, Bits64, Bool as Truth, Text, List as Items, Object, Pointed, Null, Back, Opaque, out-Value, out-roll-Value, TheOpen.{Value-F}, TheVariants.{rolls-Int, rolls-Bits32, rolls-Bits64, rolls-Bool, rolls-Text, rolls-List, rolls-Object, rolls-Pointed, rolls-Null, rolls-Back, rolls-Opaque}}
-use Rattle.rio_value.specs.declared.value.Value.TheOpen as layer
+use Rattle.rio_format.specs.{declared.kind.Primitive.{Primitive, TheVariants.{Bool as Boolean, F32, F64}}, declared.value.Part.{Part}}
+use Rattle.rio_format.specs.declared.value.Value.{Value, Int, Bits32, Bits64, Bool as Truth, Text, List as Items, Object, Pointed, Null, Back, Opaque, out-Value, out-roll-Value, TheOpen.{Value-F}, TheVariants.{rolls-Int, rolls-Bits32, rolls-Bits64, rolls-Bool, rolls-Text, rolls-List, rolls-Object, rolls-Pointed, rolls-Null, rolls-Back, rolls-Opaque}}
+use Rattle.rio_format.specs.declared.value.Value.TheOpen as layer
 use Rattle.rio_machine.specs.Entries.{counter_saying, given_count, said_count}
 use Rattle.rio_entry.specs.Leaves.{entry_kind, kind_fits, layer_bytes, layer_fits_kind, layer_value_bytes, leaves_bytes, leaves_fit, numbers_with, single_bytes, single_fits, value_bytes}
 use Rattle.rio_machine.specs.Entries.{columns_values}

@@ -3,14 +3,11 @@ use Rattle.std.proofs.Common.{◌≡◌, ℕ, zero, suc, List, Ok, sym, ap, ◌�
 use Rattle.std.specs.Prelude.{ℤ, pos}
 use Rattle.rio_num.specs.{Layout.{behind, broken, done}, Meanings.{read}}
 use Rattle.rio_num.proofs.ReadLaws.{bind_ok, ok_is}
-use Rattle.rio_buffer.specs.{Frames.{ObjLayout}, ReaderState.{ReaderState}, declared.words.Header.{Header}, declared.fault.ObjFault.{ObjFault}}
-use Rattle.rio_format.specs.Bodies.{Body, described, listed, arrayed, opaque, form_of}
-use Rattle.rio_format.specs.Objects.{Objects, number_array, bare_layout, body, closed, depth_limit, formed, headed, object_of, unread, whole_object}
-use Rattle.rio_format.specs.declared.form.Form.{Form, TheVariants.{Bare, Numbers, Headed}}
-use Rattle.rio_types.specs.{declared.class.ClassDef.{ClassDef}, declared.kind.Primitive.{Primitive}}
-use Rattle.rio_value.specs.{Accessors.{number_in}, declared.value.Part.{Part}}
-use Rattle.rio_value.specs.declared.value.Value.{Value, Object, Opaque, out-Value, out-roll-Value, TheVariants.{rolls-Object, rolls-Opaque}}
-use Rattle.rio_value.specs.declared.value.Value.TheOpen as layer
+use Rattle.rio_format.specs.{Frames.{ObjLayout}, ReaderState.{ReaderState}, declared.words.Header.{Header}, declared.fault.ObjFault.{ObjFault}, Bodies.{Body, described, listed, arrayed, opaque, form_of}}
+use Rattle.rio_format.specs.{Objects.{Objects, number_array, bare_layout, body, closed, depth_limit, formed, headed, object_of, unread, whole_object}, declared.form.Form.{Form, TheVariants.{Bare, Numbers, Headed}}}
+use Rattle.rio_format.specs.{declared.class.ClassDef.{ClassDef}, declared.kind.Primitive.{Primitive}, Accessors.{number_in}, declared.value.Part.{Part}}
+use Rattle.rio_format.specs.declared.value.Value.{Value, Object, Opaque, out-Value, out-roll-Value, TheVariants.{rolls-Object, rolls-Opaque}}
+use Rattle.rio_format.specs.declared.value.Value.TheOpen as layer
 use Rattle.rio_entry.specs.Leaves.{said_by}
 
 object_says : (class : List ℕ) (version : ℤ) (ps : List Part) → said_by (Object class version ps) ≡ pos 0

@@ -1,9 +1,8 @@
 -- What is written for a value of a leaf, by cases on the value.
 use Rattle.std.proofs.Common.{◌≡◌, ℕ, ℤ, Bool, List, [], None, refl, sym, ap, ◌∙◌}
-use Rattle.rio_types.specs.declared.kind.Primitive.{Primitive}
-use Rattle.rio_value.specs.declared.value.Part.{Part}
-use Rattle.rio_value.specs.declared.value.Value.{Value, Int, Bits32, Bits64, Bool as Truth, Text, out-Value, out-roll-Value, roll-Value, roll-out-Value, TheOpen.{Value-F}, TheVariants.{rolls-Int, rolls-Bits32, rolls-Bits64, rolls-Bool, rolls-Text}}
-use Rattle.rio_value.specs.declared.value.Value.TheOpen as layer
+use Rattle.rio_format.specs.{declared.kind.Primitive.{Primitive}, declared.value.Part.{Part}}
+use Rattle.rio_format.specs.declared.value.Value.{Value, Int, Bits32, Bits64, Bool as Truth, Text, out-Value, out-roll-Value, roll-Value, roll-out-Value, TheOpen.{Value-F}, TheVariants.{rolls-Int, rolls-Bits32, rolls-Bits64, rolls-Bool, rolls-Text}}
+use Rattle.rio_format.specs.declared.value.Value.TheOpen as layer
 use Rattle.rio_entry.specs.Leaves.{layer_bytes, layer_value_bytes, single_bytes, value_bytes}
 
 pub out_bits32 : (n : ℕ) → out-Value (Bits32 n) ≡ layer.Bits32 n

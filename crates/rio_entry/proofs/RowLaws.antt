@@ -2,12 +2,9 @@
 use Rattle.std.proofs.Common.{◌≡◌, ◌&&◌, ℕ, ℤ, List, [], ◌∷◌, ◌++◌, drop, Bool, true, cond, Option, Some, None, refl, sym, ap, ◌∙◌}
 use Rattle.std.specs.{Prelude.{is_some, unwrap_or}, Map.{lookup}, Str.{bytes_eq}}
 use Rattle.rio_leaf.specs.{declared.leaf.Dim.{Dim, TheVariants.{One, Fixed as Several, Counted}}, declared.leaf.Leaf.{Leaf}}
-use Rattle.rio_buffer.specs.ReaderState.{no_words}
-use Rattle.rio_format.specs.{Bodies.{Counters}, Slots.{Slot, kinded}, Written.{writing_of}}
+use Rattle.rio_format.specs.{ReaderState.{no_words}, Bodies.{Counters}, Slots.{Slot, kinded}, Written.{writing_of}, declared.class.ClassDef.{ClassDef}, declared.kind.Primitive.{Primitive}, declared.value.Value.{Value}}
 use Rattle.rio_format.proofs.CounterLaws.{lookup_behind}
 use Rattle.rio_machine.specs.Rows.{Column, leaf_column, object_column, column_slot, columns_bytes, columns_fit, counted_leaf_kind, leaf_kind, leaf_numbers_behind, letter_kind, sized_kind, stands_in}
-use Rattle.rio_types.specs.{declared.class.ClassDef.{ClassDef}, declared.kind.Primitive.{Primitive}}
-use Rattle.rio_value.specs.declared.value.Value.{Value}
 use Rattle.rio_entry.specs.Entries.{entry_slot, values_bytes, values_fit}
 use Rattle.rio_machine.specs.Entries.{counter_saying, given_count, said_count}
 use Rattle.rio_entry.specs.Laws.{AreCounts, EntryIsPartOfRow, IsCount, IsCountFor}

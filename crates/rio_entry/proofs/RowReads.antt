@@ -4,10 +4,8 @@ use Rattle.std.proofs.lemmas.List.{append-nil, drop_all}
 use Rattle.std.specs.Option.{option_map}
 use Rattle.rio_num.specs.Reading.{◌>>=◌}
 use Rattle.rio_leaf.specs.{declared.branch.BranchDef.{BranchDef}, declared.leaf.Leaf.{Leaf}}
-use Rattle.rio_format.specs.Bodies.{Counters}
+use Rattle.rio_format.specs.{Bodies.{Counters}, declared.class.ClassDef.{ClassDef}, declared.value.Value.{Value}}
 use Rattle.rio_machine.specs.Rows.{leaf_column, leaf_numbers_after}
-use Rattle.rio_types.specs.declared.class.ClassDef.{ClassDef}
-use Rattle.rio_value.specs.declared.value.Value.{Value}
 use Rattle.rio_entry.specs.{Leaves.{numbers_after, numbers_with}, Rows.{broken_from, first_broken}}
 use Rattle.rio_machine.specs.RowEntries.{branch_values, numbers_behind, row_from}
 use Rattle.rio_machine.specs.declared.entry_fault.EntryFault.{EntryFault}

@@ -3,15 +3,12 @@ use Rattle.std.proofs.{Common.{◌≡◌, ◌==◌, ◌&&◌, ℕ, ◌+◌, ◌*
 use Rattle.std.proofs.lemmas.List.{length-map}
 use Rattle.std.specs.{Prelude.{codes, is_some, negsuc, option_and_then, slice_get}, Map.{lookup}, Str.{bytes_eq}, List.{flat_map, list_all}}
 use Rattle.rio_leaf.specs.{declared.leaf.Dim.{Dim, TheVariants.{One, Fixed as Several, Counted}}, declared.leaf.Leaf.{Leaf}}
-use Rattle.rio_buffer.specs.ReaderState.{WordsMet}
-use Rattle.rio_format.specs.{Bodies.{Counters}, Fits.{Fitting, Labels, all_fit, back_fits, fitting_of, fitting_step, may_point, pass, pointed_fits}}
+use Rattle.rio_format.specs.{ReaderState.{WordsMet}, Bodies.{Counters}, Fits.{Fitting, Labels, all_fit, back_fits, fitting_of, fitting_step, may_point, pass, pointed_fits}}
 use Rattle.rio_format.specs.{Slots.{Slot, kinded}, Written.{Writing, all, joined_output, writing_of, writing_step}}
 use Rattle.rio_machine.specs.Rows.{counted_leaf_kind, kind_of_nothing, leaf_kind, letter_kind, sized_kind, stands_in}
-use Rattle.rio_types.specs.{declared.class.ClassDef.{ClassDef}, declared.kind.Kind.{Kind, TheVariants.{Plain, Fixed, Text as Texted, Inline, Other}}}
-use Rattle.rio_types.specs.declared.kind.Primitive.{Primitive}
-use Rattle.rio_value.specs.declared.value.Part.{Part}
-use Rattle.rio_value.specs.declared.value.Value.{Value, out-Value, TheOpen.{Value-F}, TheFolds.{fold_out-Value}}
-use Rattle.rio_value.specs.declared.value.Value.TheOpen as layer
+use Rattle.rio_format.specs.{declared.class.ClassDef.{ClassDef}, declared.kind.Kind.{Kind, TheVariants.{Plain, Fixed, Text as Texted, Inline, Other}}, declared.kind.Primitive.{Primitive}, declared.value.Part.{Part}}
+use Rattle.rio_format.specs.declared.value.Value.{Value, out-Value, TheOpen.{Value-F}, TheFolds.{fold_out-Value}}
+use Rattle.rio_format.specs.declared.value.Value.TheOpen as layer
 use Rattle.rio_format.proofs.WrittenPointers.{fit_layer, write_layer}
 use Rattle.rio_entry.specs.Leaves.{kind_fits, layer_bytes, layer_fits, layer_fits_kind, layer_value_bytes, single_bytes, single_fits, value_bytes}
 use Rattle.rio_entry.proofs.LeafKinds.{IsLeafy, kind_none, kind_some}

@@ -3,10 +3,9 @@
 use Rattle.std.proofs.Common.{◌≡◌, true≢false, ℕ, zero, suc, ◌+◌, ◌<◌, ◌≤◌, List, [], ◌∷◌, ◌++◌, map, slice_get, Bool, true, false, ◌&&◌, ◌||◌, not, cond, is_none, is_some, Option, Some, None, ℤ, refl, sym, ap, subst, ◌∙◌, append_assoc, arith}
 use Rattle.std.proofs.{lemmas.List.{map-append, append-nil}, lemmas.Bool.{and_parts, not-true}}
 use Rattle.std.specs.{List.{list_all, list_any, range_with_len}, Option.{option_or}}
-use Rattle.rio_types.specs.declared.class.ClassDef.{ClassDef}
+use Rattle.rio_format.specs.{declared.class.ClassDef.{ClassDef}, declared.value.Value.{Value}}
 use Rattle.rio_leaf.specs.{declared.leaf.Dim.{Dim, TheVariants.{One, Fixed, Counted}}, declared.leaf.Leaf.{Leaf}}
 use Rattle.rio_tree.specs.{declared.head.Branch.{Branch}, declared.refusal.BranchRefusal.TheVariants.{Compressed, BadBasket, BadEntry, NoCounter}, Header.{branch_leaves}}
-use Rattle.rio_value.specs.declared.value.Value.{Value}
 use Rattle.rio_entry.specs.Counters.{counters_are_read, counts_if_any, is_refused, leaf_count, number_in_branch, number_said, values_or_none}
 use Rattle.rio_entry.specs.Refusals.{branch_refusal, entries_are_read, is_entry_read, refusals_behind, refusals_of, refused_first, refused_unless}
 use Rattle.rio_entry.specs.BranchRows.{read_values, row_behind, values_at_entry, values_if_read, values_of_branch}

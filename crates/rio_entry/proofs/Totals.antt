@@ -4,10 +4,8 @@ use Rattle.std.proofs.{lemmas.Bool.{cases_lt, ltb-false}, lemmas.List.{length-dr
 use Rattle.byteorder.specs.Endian.{big_number}
 use Rattle.rio_num.specs.{Layout.{each, number, times}, Meanings.{read}, Reading.{skip}}
 use Rattle.rio_num.proofs.ReadLaws.{bind_ok, ok_is}
-use Rattle.rio_buffer.specs.{Frames.{Step}, ReaderState.{ReaderState}, declared.fault.ObjFault.{ObjFault, TheVariants.{Short}}}
-use Rattle.rio_format.specs.{Objects.{number_value, numbers}, Prims.{value_of_prim, width_of}}
-use Rattle.rio_types.specs.declared.kind.Primitive.{Primitive}
-use Rattle.rio_value.specs.declared.value.Value.{Value, List as Items}
+use Rattle.rio_format.specs.{Frames.{Step}, ReaderState.{ReaderState}, declared.fault.ObjFault.{ObjFault, TheVariants.{Short}}, Objects.{number_value, numbers}, Prims.{value_of_prim, width_of}}
+use Rattle.rio_format.specs.{declared.kind.Primitive.{Primitive}, declared.value.Value.{Value, List as Items}}
 use Rattle.rio_format.proofs.ComposedLengths.{width_some}
 use Rattle.rio_entry.specs.Bounds.{most_values}
 

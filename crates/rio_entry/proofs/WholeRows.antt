@@ -5,13 +5,12 @@ use Rattle.std.specs.{List.{list_all, list_any}, Map.{lookup}, Option.{option_ma
 use Rattle.rio_num.specs.Reading.{◌>>=◌}
 use Rattle.rio_leaf.specs.{declared.branch.BranchDef.{BranchDef}, declared.leaf.Dim.{Dim, TheVariants.{One, Fixed as Several, Counted}}}
 use Rattle.rio_leaf.specs.declared.leaf.Leaf.{Leaf}
-use Rattle.rio_format.specs.{Bodies.{Counters}, Slots.{kinded}, WrittenBytes.{length_limit}}
-use Rattle.rio_value.specs.{Accessors.{number_in}, declared.value.Value.{Value, Int, out-Value, out-roll-Value, TheVariants.{rolls-Int}}}
+use Rattle.rio_format.specs.{Bodies.{Counters}, Slots.{kinded}, WrittenBytes.{length_limit}, Accessors.{number_in}, declared.value.Value.{Value, Int, out-Value, out-roll-Value, TheVariants.{rolls-Int}}}
 use Rattle.rio_format.proofs.CounterLaws.{lookup_behind}
 use Rattle.rio_machine.specs.Limits.{is_too_long}
 use Rattle.rio_machine.specs.Rows.{Column, leaf_column, object_column, column_slot, columns_bytes, columns_fit, columns_of, counted_leaf_kind, entries_from, leaf_kind, leaf_numbers_after, leaf_numbers_behind, letter_kind, shape_columns, sized_kind, stands_in, kind_of_nothing}
-use Rattle.rio_types.specs.{declared.class.ClassDef.{ClassDef}, declared.kind.Kind.{Kind}, declared.kind.Primitive.{Primitive}}
-use Rattle.rio_value.specs.declared.value.Value.TheOpen as layer
+use Rattle.rio_format.specs.{declared.class.ClassDef.{ClassDef}, declared.kind.Kind.{Kind}, declared.kind.Primitive.{Primitive}}
+use Rattle.rio_format.specs.declared.value.Value.TheOpen as layer
 use Rattle.rio_entry.specs.{Entries.{branch_entry_bytes, entry_fits}, Laws.{AreCounts, IsCount, IsCountFor, can_be_read_back}}
 use Rattle.rio_machine.specs.Entries.{given_count, entry_in}
 use Rattle.rio_entry.specs.Rows.{BrokenRowsHaveABranch, WrittenRowsAreRead, broken_from, first_broken}

@@ -1,9 +1,8 @@
 -- The rows of a tree in a file: what the entries of its branches spell.
 use Rattle.std.specs.{Prelude.{ℕ, List, [], ◌∷◌, ◌++◌, map, Option, Some, None}, List.{range_with_len}, Result.{result_ok}}
-use Rattle.rio_types.specs.declared.class.ClassDef.{ClassDef}
+use Rattle.rio_format.specs.{declared.class.ClassDef.{ClassDef}, declared.value.Value.{Value}}
 use Rattle.rio_leaf.specs.declared.branch.Shape.{Shape}
 use Rattle.rio_tree.specs.{declared.head.Branch.{Branch}, declared.refusal.BranchRefusal.{BranchRefusal}}
-use Rattle.rio_value.specs.declared.value.Value.{Value}
 use Rattle.rio_machine.specs.Entries.{entry_in}
 use Rattle.rio_entry.specs.{Counters.{entry_counts, values_or_none}, StoredEntries.{branch_entry}}
 

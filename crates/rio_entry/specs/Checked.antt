@@ -1,10 +1,9 @@
 -- Rows in which of the entries of some branches no values are made, but at most numbers.
 use Rattle.std.specs.Prelude.{◌≡◌, ℕ, List, [], ◌∷◌, length, map, replicate, slice_get, slice_set, Option, Some, None, unwrap_or, Bool, true, false}
 use Rattle.std.specs.List.{flat_map, list_any}
-use Rattle.rio_types.specs.declared.class.ClassDef.{ClassDef}
+use Rattle.rio_format.specs.{declared.class.ClassDef.{ClassDef}, declared.value.Value.{Value}}
 use Rattle.rio_entry.specs.Leaves.{number_alone}
 use Rattle.rio_tree.specs.{declared.head.Branch.{Branch}, declared.refusal.BranchRefusal.{BranchRefusal}}
-use Rattle.rio_value.specs.declared.value.Value.{Value}
 use Rattle.rio_entry.specs.{declared.tree_row.TreeRow.{TreeRow}, BranchRows.{values_of_branch}, Sweeps.{refusal_before, with_branch}}
 use Rattle.rio_entry.specs.declared.checked.Made.{Made, TheVariants.{Whole, Numbers, Nothing}}
 

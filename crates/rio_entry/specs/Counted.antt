@@ -1,7 +1,6 @@
 -- What the leaves of earlier branches say, by name.
 use Rattle.std.specs.Prelude.{ℕ, List, [], ◌∷◌, slice_get, Option, Some, None}
-use Rattle.rio_format.specs.Bodies.{Counters}
-use Rattle.rio_value.specs.declared.value.Value.{Value}
+use Rattle.rio_format.specs.{Bodies.{Counters}, declared.value.Value.{Value}}
 use Rattle.rio_entry.specs.Leaves.{numbers_after}
 use Rattle.rio_tree.specs.{Header.{branch_leaves}, declared.head.Branch.{Branch}}
 use Rattle.rio_entry.specs.Counters.{values_or_none}

@@ -2,7 +2,7 @@
 use Rattle.std.specs.{Prelude.{ℕ, ℤ, pos, List, [], ◌∷◌, map, slice_get, Option, Some, None, Bool, true, false, not, unwrap_or}, List.{list_any}}
 use Rattle.rio_leaf.specs.{declared.leaf.Dim.{Dim, TheVariants.{One, Fixed, Counted}}, declared.leaf.Leaf.{Leaf}}
 use Rattle.rio_tree.specs.{declared.head.Branch.{Branch}, declared.refusal.BranchRefusal.{BranchRefusal}, Header.{branch_leaves}}
-use Rattle.rio_value.specs.declared.value.Value.{Value, Int}
+use Rattle.rio_format.specs.declared.value.Value.{Value, Int}
 use Rattle.rio_entry.specs.Leaves.{last_number}
 
 -- ---- whether they are read

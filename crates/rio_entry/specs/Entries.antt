@@ -2,12 +2,9 @@
 -- behind the other; a branch of a class has one object.
 use Rattle.std.specs.Prelude.{ℕ, List, [], ◌∷◌, ◌++◌, drop, length, nat_lt, Bool, true, false, ◌&&◌, Result, Ok, Err, if◌then◌else◌}
 use Rattle.rio_leaf.specs.declared.branch.Shape.{Shape}
-use Rattle.rio_buffer.specs.ReaderState.{no_words}
-use Rattle.rio_format.specs.{Bodies.{Counters}, Slots.{Slot}, Written.{writing_of}, WrittenBytes.{length_limit}}
-use Rattle.rio_value.specs.declared.value.Value.{Value}
+use Rattle.rio_format.specs.{ReaderState.{no_words}, Bodies.{Counters}, Slots.{Slot}, Written.{writing_of}, WrittenBytes.{length_limit}, declared.value.Value.{Value}, declared.class.ClassDef.{ClassDef}}
 use Rattle.rio_machine.specs.Entries.{counters_for, given_count}
 use Rattle.rio_machine.specs.Rows.{Column, column_slot, leaf_numbers_behind, shape_columns, stands_in}
-use Rattle.rio_types.specs.declared.class.ClassDef.{ClassDef}
 use Rattle.rio_machine.specs.declared.entry_fault.EntryFault.{EntryFault, TheVariants.{BadRow, TooLarge}}
 
 -- what may stand in a column, where its counter is given or is a leaf before it

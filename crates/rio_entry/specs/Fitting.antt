@@ -1,9 +1,7 @@
 -- How a call tells which values fit, and which numbers their leaves say.
 use Rattle.std.specs.Prelude.{◌≡◌, List, Bool, true}
-use Rattle.rio_format.specs.{Bodies.{Counters}, Counts.{SaysAsFirst}}
+use Rattle.rio_format.specs.{Bodies.{Counters}, Counts.{SaysAsFirst}, declared.class.ClassDef.{ClassDef}, declared.value.Value.{Value}}
 use Rattle.rio_machine.specs.Rows.{Column, columns_fit, leaf_numbers_after}
-use Rattle.rio_types.specs.declared.class.ClassDef.{ClassDef}
-use Rattle.rio_value.specs.declared.value.Value.{Value}
 use Rattle.std.specs.{BTreeMap.{BTreeMap}, Borrow.{Bor}}
 use Rattle.std.specs.Prelude.{ℕ, ℤ}
 

@@ -1,13 +1,11 @@
 -- Reading of entries and rows with more classes.
 use Rattle.std.specs.{Prelude.{◌≡◌, ℕ, List, [], ◌∷◌, ◌++◌, true, Ok}, List.{list_all}}
 use Rattle.rio_leaf.specs.{declared.branch.BranchDef.{BranchDef}, declared.branch.Shape.{Shape}}
-use Rattle.rio_types.specs.declared.class.ClassDef.{ClassDef}
-use Rattle.rio_value.specs.declared.value.Value.{Value}
+use Rattle.rio_format.specs.{declared.class.ClassDef.{ClassDef}, declared.value.Value.{Value}, Growth.{PicksStay, is_all_read}}
 use Rattle.rio_machine.specs.Rows.{row_fits}
 use Rattle.rio_entry.specs.Reading.{SpellsEntry}
 use Rattle.rio_machine.specs.Entries.{entry_in}
 use Rattle.rio_machine.specs.RowEntries.{row_in}
-use Rattle.rio_format.specs.Growth.{PicksStay, is_all_read}
 
 -- What is read of an entry, if all of its values are, is the same wherever the same classes are picked.
 abbrev pub EntryStays : Type 0

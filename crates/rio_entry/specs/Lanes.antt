@@ -1,7 +1,7 @@
 -- What is held of the branches of a tree, and the number that a leaf says.
 use Rattle.std.specs.{Prelude.{◌≡◌, ◌≤◌, ℕ, ℤ, List, [], ◌∷◌, slice_get, Option, Some, None, if◌then◌else◌}, Str.{bytes_eq}}
 use Rattle.rio_leaf.specs.declared.leaf.Leaf.{Leaf}
-use Rattle.rio_value.specs.{Accessors.{number_in}, declared.value.Value.{Value, out-Value}}
+use Rattle.rio_format.specs.{Accessors.{number_in}, declared.value.Value.{Value, out-Value}}
 use Rattle.rio_tree.specs.{Index.{basket_number}, declared.basket_at.BasketAt.{BasketAt}, declared.head.Branch.{Branch}}
 use Rattle.rio_entry.specs.StoredEntries.{StoredEntries, stored_basket}
 use Rattle.rio_entry.specs.declared.lane.Lane.{Lane}

@@ -3,10 +3,8 @@ use Rattle.std.specs.{Prelude.{◌≡◌, ◌⊎◌, ℕ, ℤ, List, [], ◌∷�
 use Rattle.std.specs.Str.{bytes_eq}
 use Rattle.rio_num.specs.At.{AreBytes}
 use Rattle.rio_leaf.specs.{declared.branch.Shape.{Shape}, declared.leaf.Dim.{Dim, TheVariants.{Counted}}}
-use Rattle.rio_format.specs.{Bodies.{Counters}, Laws.{has_versions}, Objects.{depth_limit}}
+use Rattle.rio_format.specs.{Bodies.{Counters}, Laws.{has_versions}, Objects.{depth_limit}, declared.class.ClassDef.{ClassDef}, Depth.{depth_of}, declared.value.Value.{Value}}
 use Rattle.rio_machine.specs.Rows.{Column, leaf_column, object_column, columns_bytes, columns_fit, leaf_numbers_behind, letter_kind, shape_columns}
-use Rattle.rio_types.specs.declared.class.ClassDef.{ClassDef}
-use Rattle.rio_value.specs.{Depth.{depth_of}, declared.value.Value.{Value}}
 use Rattle.rio_entry.specs.{Entries.{branch_entry_bytes, entry_fits, entry_written}, Reading.{BreaksEntry, SpellsEntry}}
 use Rattle.rio_machine.specs.Entries.{given_count, entry_in}
 use Rattle.rio_machine.specs.declared.entry_fault.EntryFault.{EntryFault}

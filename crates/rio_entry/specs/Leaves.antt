@@ -4,13 +4,11 @@ use Rattle.std.specs.{List.{flat_map, list_all, list_any}, Str.{bytes_eq}}
 use Rattle.byteorder.specs.Endian.{big_bytes}
 use Rattle.rio_num.specs.{Text.{text_bytes}, Layout.{broken, done, here, ◌>>=◌}}
 use Rattle.rio_leaf.specs.{declared.leaf.Leaf.{Leaf}, Leaves.{is_counted_dim}}
-use Rattle.rio_buffer.specs.{Frames.{ObjLayout}, declared.fault.ObjFault.TheVariants.{NoCount}}
-use Rattle.rio_format.specs.{Bodies.{Counters}, Fits.{bits32_fits, bits64_fits, int_fits, truth_fits}, Objects.{number_value, numbers, text_value}}
-use Rattle.rio_format.specs.{Slots.{kinded}, Written.{int_bytes, truth_byte}}
-use Rattle.rio_value.specs.{Accessors.{number_in}, declared.value.Part.{Part}}
-use Rattle.rio_value.specs.declared.value.Value.{Value, out-Value, Int as Integer, TheOpen.{Value-F, Int, Bits32, Bits64, Bool as Truth, Text, List as Items}}
+use Rattle.rio_format.specs.{Frames.{ObjLayout}, declared.fault.ObjFault.TheVariants.{NoCount}, Bodies.{Counters}, Fits.{bits32_fits, bits64_fits, int_fits, truth_fits}, Objects.{number_value, numbers, text_value}}
+use Rattle.rio_format.specs.{Slots.{kinded}, Written.{int_bytes, truth_byte}, Accessors.{number_in}, declared.value.Part.{Part}}
+use Rattle.rio_format.specs.declared.value.Value.{Value, out-Value, Int as Integer, TheOpen.{Value-F, Int, Bits32, Bits64, Bool as Truth, Text, List as Items}}
 use Rattle.rio_machine.specs.Rows.{kind_of_nothing, leaf_kind, letter_kind}
-use Rattle.rio_types.specs.{declared.kind.Kind.{Kind, TheVariants.{Plain, Fixed, Text as Texted}}, declared.kind.Primitive.{Primitive}}
+use Rattle.rio_format.specs.{declared.kind.Kind.{Kind, TheVariants.{Plain, Fixed, Text as Texted}}, declared.kind.Primitive.{Primitive}}
 use Rattle.rio_machine.specs.Entries.{counter_saying, given_count, said_count}
 
 -- ---- single values

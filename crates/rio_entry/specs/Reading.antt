@@ -2,9 +2,7 @@
 use Rattle.std.specs.{Prelude.{◌≡◌, ◌⊎◌, ◌<◌, ℕ, List, ◌++◌, length, map, Result}, Result.{result_map_both}}
 use Rattle.rio_leaf.specs.declared.branch.Shape.{Shape}
 use Rattle.rio_num.specs.Meanings.{Spells, Breaks}
-use Rattle.rio_buffer.specs.{ReaderState.{WordsMet, no_words}, declared.fault.ObjFault.{ObjFault}}
-use Rattle.rio_types.specs.declared.class.ClassDef.{ClassDef}
-use Rattle.rio_value.specs.declared.value.Value.{Value}
+use Rattle.rio_format.specs.{ReaderState.{WordsMet, no_words}, declared.fault.ObjFault.{ObjFault}, declared.class.ClassDef.{ClassDef}, declared.value.Value.{Value}}
 use Rattle.rio_entry.specs.Leaves.{number_alone}
 use Rattle.rio_machine.specs.Entries.{entry_fault, entry_in, entry_values}
 use Rattle.rio_machine.specs.declared.entry_fault.EntryFault.{EntryFault, TheVariants.{BadEntry}}

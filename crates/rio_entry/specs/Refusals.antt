@@ -1,6 +1,6 @@
 -- Which branches of a tree aren't read, by its header and by the file, and why.
 use Rattle.std.specs.{Prelude.{ℕ, List, [], ◌∷◌, ◌++◌, Option, Some, None, is_some, Bool, if◌then◌else◌}, List.{list_all, range_with_len}, Option.{option_or}}
-use Rattle.rio_types.specs.declared.class.ClassDef.{ClassDef}
+use Rattle.rio_format.specs.declared.class.ClassDef.{ClassDef}
 use Rattle.rio_tree.specs.declared.head.Branch.{Branch}
 use Rattle.rio_tree.specs.declared.refusal.BranchRefusal.{BranchRefusal, TheVariants.{BranchClass, SubBranches, EmbeddedBasket, LeafClass, NoCounter, EntryCount, BadBasketList, Compressed, BadBasket, BadEntry}}
 use Rattle.rio_entry.specs.{Counters.{counters_are_read}, BranchRows.{values_of_branch, values_at_entry}, StoredEntries.{baskets_refusal}}

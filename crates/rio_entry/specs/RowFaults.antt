@@ -1,6 +1,6 @@
 -- Why an entry of a row isn't read: the first fault.
 use Rattle.std.specs.Prelude.{List, [], ◌∷◌, Option, Some, None, Ok, Err, unwrap_or}
-use Rattle.rio_basket.specs.declared.fault.BasketFault.TheVariants.{BadLast}
+use Rattle.rio_key.specs.declared.basket_fault.BasketFault.TheVariants.{BadLast}
 use Rattle.rio_machine.specs.declared.entry_fault.EntryFault.{EntryFault, TheVariants.{BadEntry}}
 use Rattle.rio_entry.specs.StoredEntries.{StoredEntries}
 use Rattle.rio_entry.specs.{declared.lane.Lane.{Lane}, declared.lane.RowFault.{RowFault, TheVariants.{Basket, Entry}}}

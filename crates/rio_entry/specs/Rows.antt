@@ -2,10 +2,8 @@
 use Rattle.std.specs.Prelude.{◌≡◌, ℕ, ◌+◌, List, [], ◌∷◌, Option, Some, None, Result, Ok, Err, is_none, is_ok, IsTrue, not}
 use Rattle.std.specs.{List.{list_all}, Option.{option_map}}
 use Rattle.rio_leaf.specs.declared.branch.BranchDef.{BranchDef}
-use Rattle.rio_format.specs.Bodies.{Counters}
+use Rattle.rio_format.specs.{Bodies.{Counters}, declared.class.ClassDef.{ClassDef}, declared.value.Value.{Value}}
 use Rattle.rio_machine.specs.{Limits.{has_long_entry}, Rows.{entries_of, row_fits}}
-use Rattle.rio_types.specs.declared.class.ClassDef.{ClassDef}
-use Rattle.rio_value.specs.declared.value.Value.{Value}
 use Rattle.rio_entry.specs.Laws.{can_be_read_back}
 use Rattle.rio_machine.specs.{RowEntries.{branch_values, numbers_behind, row_in}, declared.entry_fault.EntryFault.{EntryFault}}
 

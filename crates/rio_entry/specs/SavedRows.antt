@@ -3,8 +3,7 @@ use Rattle.std.specs.Prelude.{◌≡◌, ℕ, ◌+◌, List, [], ◌∷◌, code
 use Rattle.std.specs.{Int.{cast_unsigned, w32}, List.{All, find, list_all}, List.Sorted.{IsNonDecreasingBy}, Option.{option_map_or}, Str.{bytes_eq}}
 use Rattle.rio_num.specs.Reading.{some_if}
 use Rattle.rio_key.specs.declared.head.KeyHead.{KeyHead}
-use Rattle.rio_types.specs.declared.class.ClassDef.{ClassDef}
-use Rattle.rio_value.specs.declared.value.Value.{Value}
+use Rattle.rio_format.specs.{declared.class.ClassDef.{ClassDef}, declared.value.Value.{Value}}
 use Rattle.rio_machine.specs.{RowEntries.{fitting_row}, State.{Row}}
 use Rattle.rio_tree.specs.{Header.{tree_head_in}, Index.{basket_number}, Members.{◌>>=◌}, Refusals.{are_in_order}, SavedEntries.{BasketBytes, all_there, rows_by}, WrittenLaws.{stated_defs}}
 use Rattle.rio_tree.specs.{declared.basket_at.BasketAt.{BasketAt}, declared.head.Branch.{Branch}, declared.head.TreeHead.{TreeHead}}

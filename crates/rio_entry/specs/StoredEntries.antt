@@ -3,7 +3,7 @@ use Rattle.std.specs.Prelude.{ℕ, ◌+◌, ◌-◌, List, [], ◌∷◌, length
 use Rattle.std.specs.List.{list_any}
 use Rattle.rio_tree.specs.{Index.{basket_number}, declared.basket_at.BasketAt.{BasketAt}, declared.head.Branch.{Branch}}
 use Rattle.rio_tree.specs.declared.refusal.BranchRefusal.{BranchRefusal, TheVariants.{Compressed as IsCompressed, BadBasket}}
-use Rattle.rio_basket.specs.{declared.fault.BasketFault.{BasketFault, TheVariants.{BadLast, BadOffsets, Compressed, NoMemory}}, Entries.{entries_in}}
+use Rattle.rio_key.specs.{declared.basket_fault.BasketFault.{BasketFault, TheVariants.{BadLast, BadOffsets, Compressed, NoMemory}}, BasketEntries.{entries_in}}
 
 -- what a basket holds: its entries, or why it isn't read
 abbrev pub StoredEntries : Type 0

@@ -1,8 +1,7 @@
 -- A row of a tree, gone through from branch to branch: which branches are still read, and their values.
 use Rattle.std.specs.{Prelude.{ℕ, List, [], ◌∷◌, ◌++◌, Option, Some, None, is_some}, Option.{option_or}}
-use Rattle.rio_types.specs.declared.class.ClassDef.{ClassDef}
+use Rattle.rio_format.specs.{declared.class.ClassDef.{ClassDef}, declared.value.Value.{Value}}
 use Rattle.rio_tree.specs.{declared.head.Branch.{Branch}, declared.refusal.BranchRefusal.{BranchRefusal, TheVariants.{NoCounter, BadEntry}}}
-use Rattle.rio_value.specs.declared.value.Value.{Value}
 use Rattle.rio_entry.specs.{declared.tree_row.TreeRow.{TreeRow}, Counters.{counters_are_read, values_or_none}, Refusals.{refused_first, refused_unless}}
 use Rattle.rio_entry.specs.BranchRows.{values_of_branch}
 

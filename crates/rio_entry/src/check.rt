@@ -3,11 +3,9 @@ ghost use Rattle.std.specs.Prelude.{◌≡◌, ◌<◌, ◌^◌, List, length, E
 ghost use Rattle.rio_num.specs.Answers.{GivesUnless};
 ghost use Rattle.rio_num.specs.At.{GoesOn};
 ghost use Rattle.rio_num.specs.Meanings.{read};
-ghost use Rattle.rio_buffer.specs.Frames.{ReadsAs};
-ghost use Rattle.rio_buffer.specs.ReaderState.{no_words, standing};
+ghost use Rattle.rio_format.specs.{Frames.{ReadsAs}, ReaderState.{no_words, standing}, declared.value.Value.{Value as Given}};
 ghost use Rattle.rio_leaf.specs.declared.branch.Shape.TheVariants.{Class as Classed};
 ghost use Rattle.rio_read.specs.Passing.{pass_of};
-ghost use Rattle.rio_value.specs.declared.value.Value.{Value as Given};
 ghost use Rattle.rio_machine.specs.declared.entry_fault.EntryFault.TheVariants.{NoMemory as OutOfMemory};
 ghost use Rattle.rio_machine.specs.declared.entry_fault.EntryFault.{EntryFault as Fault};
 ghost use Rattle.rio_entry.specs.Counting.{counters_within};
@@ -18,11 +16,9 @@ use crate::EntryFault;
 use crate::check_leaves::check_leaves;
 use crate::counter::LeafCounters;
 use crate::read::check_end;
-use rio_buffer::{ObjFault, ObjReader};
+use rio_format::{Classes, ObjFault, ObjReader, Value, Values};
 use rio_leaf::{BranchDef, Shape};
 use rio_read::pass_next;
-use rio_types::Classes;
-use rio_value::{Value, Values};
 use std::alloc::Global;
 
 // The one object of a branch of a class.

@@ -2,8 +2,7 @@
 ghost use Rattle.std.specs.Prelude.{◌≡◌, None, Some, IfOk, OnOk, drop, map, slice_get};
 ghost use Rattle.std.specs.List.{list_any};
 ghost use Rattle.rio_entry.specs.Leaves.{last_number as last_said};
-ghost use Rattle.rio_format.specs.Bodies.{Counters};
-ghost use Rattle.rio_format.specs.Counts.{SaysAsFirst};
+ghost use Rattle.rio_format.specs.{Bodies.{Counters}, Counts.{SaysAsFirst}};
 ghost use Rattle.rio_tree.specs.Header.{branch_leaves};
 ghost use Rattle.rio_entry.specs.Counted.{noted_branch, noted_branches};
 ghost use Rattle.rio_entry.specs.Counters.{counters_are_read, entry_counts, is_refused, leaf_count, number_in_branch, number_said, values_or_none};
@@ -14,7 +13,7 @@ use crate::{Numbers, leaf_counts, note_leaves};
 use rio_leaf::{Dim, Leaf, Shape};
 use rio_num::NoMemory;
 use rio_tree::{Branch, BranchRefusal};
-use rio_value::{Value, Values};
+use rio_format::{Value, Values};
 use std::alloc::Global;
 
 // The branch at `k` is refused.

@@ -1,10 +1,8 @@
 //! Which values fit a leaf.
 ghost use Rattle.std.specs.Prelude.{◌≡◌, ℕ, Some, [], min};
 ghost use Rattle.std.specs.List.{list_all};
-ghost use Rattle.rio_format.specs.Fits.{bits32_fits, bits64_fits, int_fits};
-ghost use Rattle.rio_format.specs.Slots.{kinded};
+ghost use Rattle.rio_format.specs.{Fits.{bits32_fits, bits64_fits, int_fits}, Slots.{kinded}, declared.kind.Kind.TheVariants.{Fixed, Plain}};
 ghost use Rattle.rio_machine.specs.Rows.{counted_leaf_kind, leaf_kind, sized_kind};
-ghost use Rattle.rio_types.specs.declared.kind.Kind.TheVariants.{Fixed, Plain};
 ghost use Rattle.rio_entry.specs.Bounds.{most_values};
 ghost use Rattle.rio_entry.specs.Counting.{counters_from};
 ghost use Rattle.rio_machine.specs.Entries.{counter_saying};
@@ -13,8 +11,7 @@ ghost use Rattle.rio_entry.specs.Leaves.{kind_fits, leaves_fit, single_fits};
 use crate::counter::LeafCounters;
 use crate::leaf::{given_count, letter_kind, said_count};
 use rio_leaf::{Dim, Leaf};
-use rio_types::Prim;
-use rio_value::Value;
+use rio_format::{Prim, Value};
 
 fn int_fits(of: Prim, n: i128) -> bool
     ensures { result ≡ int_fits n (kinded (Plain of)) }

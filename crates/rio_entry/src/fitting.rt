@@ -1,10 +1,8 @@
 //! Whether a row fits the branches of a tree.
 ghost use Rattle.std.specs.Prelude.{◌≡◌, List, length, map, IfOk};
-ghost use Rattle.rio_format.specs.Bodies.{Counters};
-ghost use Rattle.rio_format.specs.Counts.{SaysAsFirst};
+ghost use Rattle.rio_format.specs.{Bodies.{Counters}, Counts.{SaysAsFirst}, declared.class.ClassDef.{ClassDef as Class}};
 ghost use Rattle.rio_machine.specs.Rows.{leaf_column, leaf_kind, row_fits, shape_columns, sized_kind};
 ghost use Rattle.rio_tree.specs.WrittenLaws.{stated_defs};
-ghost use Rattle.rio_types.specs.declared.class.ClassDef.{ClassDef as Class};
 ghost use Rattle.rio_entry.specs.Fitting.{TellsFit};
 ghost use Rattle.rio_entry.specs.Leaves.{kind_fits};
 
@@ -15,8 +13,7 @@ use rio_fit::fits;
 use rio_leaf::{Dim, Leaf, Shape};
 use rio_num::NoMemory;
 use rio_tree::Branch;
-use rio_types::{Classes, Prim};
-use rio_value::Value;
+use rio_format::{Classes, Prim, Value};
 use std::alloc::Global;
 
 // Whether the value fits a leaf of these numbers and this dimension, behind leaves that say such numbers.

@@ -7,8 +7,7 @@ ghost use Rattle.rio_entry.specs.Counting.{counter_among, places_after};
 ghost use Rattle.rio_machine.specs.Entries.{given_count, said_count};
 ghost use Rattle.rio_entry.specs.Leaves.{numbers_after};
 
-use rio_types::Prim;
-use rio_value::Value;
+use rio_format::{Prim, Value};
 
 /// The kind of the single values that a letter stands for.
 pub(crate) fn letter_kind(letter: u8) -> Option<Prim>

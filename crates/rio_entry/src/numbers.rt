@@ -1,15 +1,14 @@
 //! What the leaves of a row say, by name.
 ghost use Rattle.std.specs.Prelude.{◌≡◌, ℕ, List, Some, IfOk, OnOk, map, pos, unwrap_or, if◌then◌else◌};
 ghost use Rattle.std.specs.Str.{bytes_eq};
-ghost use Rattle.rio_format.specs.Bodies.{Counters};
-ghost use Rattle.rio_format.specs.Counts.{SaysAsFirst, number_by_name};
+ghost use Rattle.rio_format.specs.{Bodies.{Counters}, Counts.{SaysAsFirst, number_by_name}};
 ghost use Rattle.rio_machine.specs.Rows.{leaf_column, leaf_numbers_after, shape_columns};
 ghost use Rattle.rio_entry.specs.Leaves.{numbers_after};
 ghost use Rattle.rio_machine.specs.RowEntries.{count_before, counts_before};
 
 use rio_leaf::{Dim, Leaf, Shape};
 use rio_num::NoMemory;
-use rio_value::{Value, Values};
+use rio_format::{Value, Values};
 use std::alloc::Global;
 use std::collections::BTreeMap;
 

@@ -7,11 +7,9 @@ ghost use Rattle.rio_write.specs.Sinks.{SinkTakes};
 ghost use Rattle.rio_entry.specs.Leaves.{leaves_bytes, single_bytes, value_bytes};
 
 use crate::leaf::letter_kind;
-use rio_buffer::ObjWriter;
+use rio_format::{ObjWriter, Prim, Value};
 use rio_leaf::Leaf;
 use rio_num::{Bytes, NoMemory};
-use rio_types::Prim;
-use rio_value::Value;
 use rio_write::{Sink, Total, write_bool, write_prim};
 use std::alloc::Global;
 

@@ -2,9 +2,8 @@
 ghost use Rattle.std.specs.Prelude.{◌≡◌, ◌<◌, ◌^◌, List, length, Err, IfOk, Ok};
 ghost use Rattle.rio_num.specs.At.{GoesOn};
 ghost use Rattle.rio_num.specs.Meanings.{read};
-ghost use Rattle.rio_buffer.specs.Frames.{ReadsAs};
+ghost use Rattle.rio_format.specs.{Frames.{ReadsAs}, declared.value.Value.{Value as Given}};
 ghost use Rattle.rio_leaf.specs.declared.branch.Shape.TheVariants.{Class as Classed};
-ghost use Rattle.rio_value.specs.declared.value.Value.{Value as Given};
 ghost use Rattle.rio_num.specs.Answers.{GivesUnless};
 ghost use Rattle.rio_machine.specs.declared.entry_fault.EntryFault.TheVariants.{NoMemory as OutOfMemory};
 ghost use Rattle.rio_machine.specs.declared.entry_fault.EntryFault.{EntryFault as Fault};
@@ -15,11 +14,9 @@ ghost use Rattle.rio_machine.specs.Entries.{entry_in, entry_values, only_values}
 use crate::EntryFault;
 use crate::counter::LeafCounters;
 use crate::read_leaves::read_leaves;
-use rio_buffer::{ObjFault, ObjReader};
+use rio_format::{Classes, ObjFault, ObjReader, Value, Values};
 use rio_leaf::{BranchDef, Shape};
 use rio_read::read_next;
-use rio_types::Classes;
-use rio_value::{Value, Values};
 use std::alloc::Global;
 
 /// Nothing stands behind what was read.

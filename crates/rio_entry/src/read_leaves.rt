@@ -2,11 +2,9 @@
 ghost use Rattle.std.specs.Prelude.{◌≡◌, ℕ, List, Some, [], min};
 ghost use Rattle.rio_num.specs.At.{GoesOn};
 ghost use Rattle.rio_num.specs.Meanings.{read};
-ghost use Rattle.rio_buffer.specs.Frames.{ReadsAs};
-ghost use Rattle.rio_format.specs.Objects.{numbers};
+ghost use Rattle.rio_format.specs.{Frames.{ReadsAs}, Objects.{numbers}, declared.class.ClassDef.{ClassDef as Class}};
 ghost use Rattle.rio_leaf.specs.declared.branch.Shape.TheVariants.{Leaves as Leafy};
 ghost use Rattle.rio_machine.specs.Rows.{counted_leaf_kind, leaf_kind, sized_kind};
-ghost use Rattle.rio_types.specs.declared.class.ClassDef.{ClassDef as Class};
 ghost use Rattle.rio_entry.specs.Bounds.{most_values};
 ghost use Rattle.rio_entry.specs.Counting.{counters_from};
 ghost use Rattle.rio_machine.specs.Entries.{counter_saying};
@@ -15,11 +13,9 @@ ghost use Rattle.rio_machine.specs.Entries.{entry_values};
 
 use crate::counter::LeafCounters;
 use crate::leaf::{given_count, letter_kind, said_count};
-use rio_buffer::{ObjFault, ObjReader};
+use rio_format::{ObjFault, ObjReader, Prim, Value, Values};
 use rio_leaf::{Dim, Leaf};
 use rio_read::{read_number, read_text, read_times};
-use rio_types::Prim;
-use rio_value::{Value, Values};
 use std::alloc::Global;
 
 // A list of values. No more are read than there are bytes, and one, which is then not there.

@@ -1,7 +1,6 @@
 //! The row of a tree is read.
 ghost use Rattle.std.specs.Prelude.{◌≡◌, ◌++◌, map, IfOk, OnOk};
-ghost use Rattle.rio_format.specs.Bodies.{Counters};
-ghost use Rattle.rio_format.specs.Counts.{SaysAsFirst};
+ghost use Rattle.rio_format.specs.{Bodies.{Counters}, Counts.{SaysAsFirst}};
 ghost use Rattle.rio_num.specs.Answers.{GivesUnless};
 ghost use Rattle.rio_machine.specs.declared.entry_fault.EntryFault.TheVariants.{NoMemory as OutOfMemory};
 ghost use Rattle.rio_entry.specs.Rows.{broken_branch};
@@ -12,8 +11,7 @@ use crate::numbers::{Numbers, counts_beside, note_values};
 use crate::part::RowPart;
 use crate::read::read_entry_with;
 use rio_num::NoMemory;
-use rio_types::Classes;
-use rio_value::{Value, Values, copy};
+use rio_format::{Classes, Value, Values, copy};
 use std::alloc::Global;
 
 // The values of the branch's entry, behind leaves that say these numbers.

@@ -29,8 +29,7 @@ use rio_key::KeyHead;
 use rio_machine::EntryFault;
 use rio_num::NoMemory;
 use rio_tree::{BasketAt, Branch, TreeHead};
-use rio_types::Classes;
-use rio_value::Values;
+use rio_format::{Classes, Values};
 use std::alloc::Global;
 
 // Holds the baskets of an entry, one of each branch.

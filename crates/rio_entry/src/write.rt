@@ -4,8 +4,7 @@ ghost use Rattle.rio_leaf.specs.declared.branch.Shape.TheVariants.{Leaves as Lea
 ghost use Rattle.rio_entry.specs.Entries.{entry_written};
 ghost use Rattle.rio_num.specs.Answers.{GivesUnless};
 ghost use Rattle.rio_machine.specs.declared.entry_fault.EntryFault.TheVariants.{NoMemory as OutOfMemory};
-ghost use Rattle.rio_types.specs.declared.class.ClassDef.{ClassDef as Class};
-ghost use Rattle.rio_value.specs.declared.value.Value.{Value as Given};
+ghost use Rattle.rio_format.specs.{declared.class.ClassDef.{ClassDef as Class}, declared.value.Value.{Value as Given}};
 
 use crate::EntryFault;
 use crate::counter::LeafCounters;
@@ -14,13 +13,9 @@ use crate::put::{leaves_length, leaves_written};
 use rio_fit::fits;
 use rio_leaf::{BranchDef, Leaf, Shape};
 use rio_num::Bytes;
-use rio_types::Classes;
-use rio_value::{Value, Values};
+use rio_format::{Classes, LENGTH_LIMIT, Value, Values};
 use rio_write::{write_object, written_length};
 use std::alloc::Global;
-
-/// The greatest length of an entry.
-const LIMIT: u64 = 16_777_216;
 
 fn write_leaves(
     alloc: Global,
@@ -36,7 +31,7 @@ fn write_leaves(
     if !leaves_fit(leaves, &counters, counts, row) {
         return Err(EntryFault::BadRow);
     }
-    if leaves_length(leaves, row)? > LIMIT {
+    if leaves_length(leaves, row)? > LENGTH_LIMIT {
         return Err(EntryFault::TooLarge);
     }
     Ok(leaves_written(alloc, leaves, row)?)
@@ -54,7 +49,7 @@ fn write_value(
     if !fits(alloc, classes, class, value)? {
         return Err(EntryFault::BadRow);
     }
-    if written_length(alloc, classes, value)? > LIMIT {
+    if written_length(alloc, classes, value)? > LENGTH_LIMIT {
         return Err(EntryFault::TooLarge);
     }
     Ok(write_object(alloc, classes, value, 0)?)

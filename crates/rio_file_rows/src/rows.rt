@@ -1,5 +1,4 @@
 //! Rows of files in memory: their chain, their close, what they are recovered as, and sessions on them.
-mod batches;
 mod broken;
 mod chains;
 mod cleaned;

@@ -1,8 +1,7 @@
 -- The entries of a branch, one more of them, and all of them.
 use Rattle.std.proofs.{Common.{◌≡◌, ℕ, ◌+◌, ◌-◌, List, [], ◌∷◌, ◌++◌, length, true, false, refl, ap, ◌∙◌, arith}, lemmas.List.{length-append}}
-use Rattle.rio_basket.specs.Open.{takes_entry}
-use Rattle.rio_basket.specs.Cut.{Cut, all_entries, cut_behind, cut_more, cut_of, firsts_from}
-use Rattle.rio_basket.proofs.CutAll.{all_of_cut}
+use Rattle.rio_key.specs.{OpenBasket.{takes_entry}, Cut.{Cut, all_entries, cut_behind, cut_more, cut_of, firsts_from}}
+use Rattle.rio_key.proofs.CutAll.{all_of_cut}
 
 pub cut_behind_more : (cut : Cut) (entries : List (List ℕ)) (entry : List ℕ) → cut_behind cut (entries ++ entry ∷ []) ≡ cut_more (cut_behind cut entries) entry
 cut_behind_more cut [] entry = refl

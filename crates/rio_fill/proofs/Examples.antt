@@ -1,6 +1,6 @@
 -- Entries that are cut into baskets.
 use Rattle.std.proofs.{Common.{◌≡◌, ℕ, List, [], ◌∷◌, ◌++◌, refl}, Math.ListN.{replicate}}
-use Rattle.rio_basket.specs.Cut.{Cut, cut_into_baskets, cut_more, firsts_from}
+use Rattle.rio_key.specs.Cut.{Cut, cut_into_baskets, cut_more, firsts_from}
 
 abbrev so_far : List (List (List ℕ)) → List (List ℕ) → Cut
 so_far put rest = record { put = put; rest = rest }

@@ -1,9 +1,8 @@
 -- A branch with one entry more.
 use Rattle.std.proofs.Common.{◌≡◌, ◌==◌, ℕ, ◌+◌, ◌-◌, List, [], ◌∷◌, ◌++◌, length, true, false, refl, sym, ap, ◌∙◌, append_assoc}
 use Rattle.std.proofs.lemmas.List.{append-nil, map-append}
-use Rattle.rio_basket.specs.Open.{takes_entry}
+use Rattle.rio_key.specs.{OpenBasket.{takes_entry}, Cut.{Cut, basket_with, cut_into_baskets, cut_more, cut_of, firsts_from}}
 use Rattle.rio_tree.specs.declared.basket_at.BasketAt.{BasketAt}
-use Rattle.rio_basket.specs.Cut.{Cut, basket_with, cut_into_baskets, cut_more, cut_of, firsts_from}
 use Rattle.rio_fill.specs.{Fill.{BranchFill, branch_added, branch_put, count_before, has_no_entries, takes}, Laws.{EntryKeepsCut, FreshIsCut, IsCut, SaveListsBaskets, firsts_of}}
 use Rattle.rio_fill.proofs.CutLaws.{count_put, cut_behind_more, cut_full, cut_taken, firsts_more}
 

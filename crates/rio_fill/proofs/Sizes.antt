@@ -5,14 +5,11 @@ use Rattle.std.specs.{List.{flat_map, list_all, list_any, sum_by}, Prelude.{code
 use Rattle.byteorder.specs.{Numbers.{length-bytes_high_first}}
 use Rattle.rio_leaf.specs.{declared.branch.Shape.{Shape, TheVariants.{Leaves, Class}}, declared.leaf.Dim.{Dim, TheVariants.{One, Fixed as Several, Counted}}}
 use Rattle.rio_leaf.specs.{Leaves.{is_counted_dim}, Marks.{letter_of_texts}, declared.leaf.Leaf.{Leaf}}
-use Rattle.rio_buffer.specs.ReaderState.{no_words}
-use Rattle.rio_format.specs.{Bodies.{Counters}, Prims.{width_of}, Slots.{kinded}, Written.{writing_of}}
+use Rattle.rio_format.specs.{ReaderState.{no_words}, Bodies.{Counters}, Prims.{width_of}, Slots.{kinded}, Written.{writing_of}}
 use Rattle.rio_machine.specs.Rows.{leaf_column, column_slot, columns_bytes, columns_fit, kind_of_nothing, leaf_kind, leaf_numbers_behind, letter_kind, shape_columns, sized_kind, stands_in}
-use Rattle.rio_types.specs.{declared.class.ClassDef.{ClassDef}, declared.kind.Kind.{Kind, TheVariants.{Fixed, Text as Texted}}}
-use Rattle.rio_types.specs.declared.kind.Primitive.{Primitive, TheVariants.{Bool as Boolean, F32, F64}}
-use Rattle.rio_value.specs.declared.value.Part.{Part}
-use Rattle.rio_value.specs.declared.value.Value.{Value, out-Value, TheOpen.{Value-F}}
-use Rattle.rio_value.specs.declared.value.Value.TheOpen as layer
+use Rattle.rio_format.specs.{declared.class.ClassDef.{ClassDef}, declared.kind.Kind.{Kind, TheVariants.{Fixed, Text as Texted}}, declared.kind.Primitive.{Primitive, TheVariants.{Bool as Boolean, F32, F64}}}
+use Rattle.rio_format.specs.{declared.value.Part.{Part}, declared.value.Value.{Value, out-Value, TheOpen.{Value-F}}}
+use Rattle.rio_format.specs.declared.value.Value.TheOpen as layer
 use Rattle.rio_tree.specs.Header.{has_offsets, varies_in_length}
 use Rattle.rio_entry.specs.Leaves.{kind_fits, layer_bytes, layer_fits, layer_fits_kind, layer_value_bytes, single_bytes, single_fits, value_bytes, without_number}
 use Rattle.rio_entry.proofs.{LeafKinds.{kind_leafy, kind_none, kind_some}, Singles.{leaf_written, stands_is}}

@@ -2,9 +2,8 @@
 use Rattle.std.proofs.Common.{◌≡◌, ◌==◌, ◌&&◌, ◌||◌, ℕ, ◌+◌, ◌<◌, ◌≤◌, List, [], ◌∷◌, ◌++◌, length, Bool, true, false, refl, sym, ap, subst, ◌∙◌, arith}
 use Rattle.std.proofs.{lemmas.Bool.{and_parts, eqb-true, ltb-true}, lemmas.List.{length-append}}
 use Rattle.std.specs.{List.{concat, list_all}, Prelude.{nat_le, nat_lt}}
-use Rattle.rio_basket.specs.Open.{entries_length, takes_entry}
-use Rattle.rio_basket.proofs.OpenLaws.{least}
-use Rattle.rio_basket.specs.Cut.{Cut, cut_behind, cut_more}
+use Rattle.rio_key.specs.{OpenBasket.{entries_length, takes_entry}, Cut.{Cut, cut_behind, cut_more}}
+use Rattle.rio_key.proofs.OpenLaws.{least}
 use Rattle.rio_fill.specs.{Laws.{IsSmall, OpenBasketStaysSmall}}
 use Rattle.rio_fill.proofs.CutLaws.{cut_full, cut_taken}
 

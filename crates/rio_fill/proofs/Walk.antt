@@ -8,13 +8,11 @@ use Rattle.rio_leaf.specs.Leaves.{can_count, has_counting_leaf, has_leaf, is_dim
 use Rattle.rio_leaf.specs.Stated.{are_stated_leaves, is_stated_leaf, is_stated_shape, leaves_of}
 use Rattle.rio_leaf.specs.{declared.branch.Shape.{Shape, TheVariants.{Leaves, Class}}}
 use Rattle.rio_leaf.specs.{declared.leaf.Dim.{Dim, TheVariants.{One, Fixed as Several, Counted}}, declared.leaf.Leaf.{Leaf}}
-use Rattle.rio_format.specs.{Bodies.{Counters}}
+use Rattle.rio_format.specs.{Bodies.{Counters}, declared.class.ClassDef.{ClassDef}, Accessors.{number_in}, declared.value.Value.{Value, Int, out-Value, out-roll-Value, TheVariants.{rolls-Int}}}
 use Rattle.rio_format.proofs.CounterLaws.{lookup_behind}
 use Rattle.rio_machine.specs.Limits.{is_too_long}
 use Rattle.rio_machine.specs.Rows.{Column, leaf_column, column_slot, columns_bytes, columns_fit, leaf_numbers_after, leaf_numbers_behind, shape_columns, stands_in}
-use Rattle.rio_types.specs.declared.class.ClassDef.{ClassDef}
-use Rattle.rio_value.specs.{Accessors.{number_in}, declared.value.Value.{Value, Int, out-Value, out-roll-Value, TheVariants.{rolls-Int}}}
-use Rattle.rio_value.specs.declared.value.Value.TheOpen as layer
+use Rattle.rio_format.specs.declared.value.Value.TheOpen as layer
 use Rattle.rio_entry.specs.{Entries.{branch_entry_bytes, entry_written, within_limit}, Laws.{AreCounts, IsCount, IsCountFor}}
 use Rattle.rio_machine.specs.Entries.{given_count}
 use Rattle.rio_machine.specs.RowEntries.{count_before, counts_before}

@@ -5,11 +5,9 @@ use Rattle.std.specs.{List.{list_any}, Prelude.{IfOk, IsTrue, not, ◌==◌}}
 use Rattle.rio_num.specs.Word.{is_name_text}
 use Rattle.rio_leaf.specs.Stated.{all_leaves, are_branches_behind, are_stated_branches, has_branch, is_stated_branch, is_stated_shape, leaves_of}
 use Rattle.rio_leaf.specs.{declared.branch.BranchDef.{BranchDef}, declared.branch.Shape.{Shape, TheVariants.{Leaves, Class}}, declared.leaf.Leaf.{Leaf}}
-use Rattle.rio_format.specs.Bodies.{Counters}
+use Rattle.rio_format.specs.{Bodies.{Counters}, declared.class.ClassDef.{ClassDef}, declared.value.Value.{Value}}
 use Rattle.rio_machine.specs.Limits.{has_long_entry, is_too_long}
 use Rattle.rio_machine.specs.Rows.{Column, columns_bytes, columns_fit, columns_of, entries_from, entries_of, leaf_numbers_after, row_fits, shape_columns}
-use Rattle.rio_types.specs.declared.class.ClassDef.{ClassDef}
-use Rattle.rio_value.specs.declared.value.Value.{Value}
 use Rattle.rio_machine.specs.declared.entry_fault.EntryFault.{EntryFault, TheVariants.{BadRow, TooLarge, NoMemory as OutOfMemory}}
 use Rattle.rio_num.specs.Answers.{GivesUnless}
 use Rattle.rio_entry.specs.Leaves.{numbers_after}

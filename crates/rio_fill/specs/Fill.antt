@@ -2,7 +2,7 @@
 use Rattle.std.specs.Prelude.{ℕ, zero, suc, ◌+◌, ◌-◌, ◌*◌, ◌/◌, ◌%◌, ℤ, List, [], ◌∷◌, ◌++◌, length, map, slice_get, Bool, true, false, not, ◌==◌, ◌&&◌, nat_lt, Option, Some, None}
 use Rattle.std.specs.{List.{list_all}, Option.{option_map_or}}
 use Rattle.rio_leaf.specs.declared.branch.BranchDef.{BranchDef}
-use Rattle.rio_basket.specs.Open.{OpenBasket, takes_entry}
+use Rattle.rio_key.specs.OpenBasket.{OpenBasket, takes_entry}
 use Rattle.rio_tree.specs.{Header.{has_offsets}, declared.basket_at.BasketAt.{BasketAt}, declared.head.Branch.{Branch}, declared.head.TreeHead.{TreeHead}}
 
 -- ---- what is kept

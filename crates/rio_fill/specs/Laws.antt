@@ -1,10 +1,9 @@
 -- What the baskets of a tree that is being filled hold.
 use Rattle.std.specs.Prelude.{◌≡◌, ℕ, ◌+◌, List, [], ◌∷◌, ◌++◌, ◌≤◌, length, map, slice_get, true, false, not, nat_le, Some, IsTrue}
 use Rattle.std.specs.List.{list_all}
-use Rattle.rio_basket.specs.Open.{entries_length}
+use Rattle.rio_key.specs.{OpenBasket.{entries_length}, Cut.{all_entries, cut_into_baskets, cut_of, firsts_from}}
 use Rattle.std.specs.Option.{option_map_or}
 use Rattle.rio_tree.specs.declared.basket_at.BasketAt.{BasketAt}
-use Rattle.rio_basket.specs.Cut.{all_entries, cut_into_baskets, cut_of, firsts_from}
 use Rattle.rio_fill.specs.{Fill.{BranchFill, branch_added, branch_put, count_before, full_flags, has_flag, has_no_entries, is_full_for, open_flags, takes}, Prepare.{is_sized}, Room.{branch_reserved, may_be_added}}
 
 abbrev pub firsts_of : List BasketAt → List ℕ

@@ -3,10 +3,8 @@ use Rattle.std.specs.Prelude.{ℕ, ◌*◌, List, [], ◌∷◌, length, Bool, t
 use Rattle.std.specs.{List.{sum_by}, Map.{lookup}, Str.{bytes_eq}}
 use Rattle.rio_leaf.specs.{Leaves.{has_leaf}, Stated.{leaves_of}, declared.branch.BranchDef.{BranchDef}, declared.branch.Shape.{Shape}}
 use Rattle.rio_leaf.specs.{declared.leaf.Dim.{Dim, TheVariants.{One, Fixed as Several, Counted}}, declared.leaf.Leaf.{Leaf}}
-use Rattle.rio_format.specs.{Bodies.{Counters}, Prims.{width_of}}
+use Rattle.rio_format.specs.{Bodies.{Counters}, Prims.{width_of}, declared.class.ClassDef.{ClassDef}, declared.kind.Primitive.{Primitive}, declared.value.Value.{Value}}
 use Rattle.rio_machine.specs.{Limits.{has_long_entry}, Rows.{columns_bytes, columns_fit, entries_of, letter_kind, row_fits, shape_columns}}
-use Rattle.rio_types.specs.{declared.class.ClassDef.{ClassDef}, declared.kind.Primitive.{Primitive}}
-use Rattle.rio_value.specs.declared.value.Value.{Value}
 use Rattle.rio_tree.specs.Header.{has_offsets}
 use Rattle.rio_entry.specs.Entries.{within_limit}
 use Rattle.rio_machine.specs.declared.entry_fault.EntryFault.{EntryFault, TheVariants.{BadRow, TooLarge}}

@@ -2,7 +2,7 @@
 ghost use Rattle.std.specs.Prelude.{◌≡◌, ◌++◌, IfOk};
 
 use crate::places::Places;
-use rio_basket::Basket;
+use rio_key::Basket;
 use rio_leaf::BranchDef;
 use rio_num::NoMemory;
 use rio_tree::{BasketAt, Baskets, Branch, BranchNumbers};

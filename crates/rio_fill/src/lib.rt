@@ -6,7 +6,7 @@
 //! ([`Filler::reserve`]), writes those baskets, tells where each stands ([`Filler::written`]), and adds the row
 //! ([`Filler::add`]). For a save it writes every open basket that isn't empty, and the header ([`Filler::save_head`]).
 //!
-//! The rule by which entries are divided into baskets stands in `rio_basket`. `specs/Fill.antt` has what a filler holds and how it
+//! The rule by which entries are divided into baskets stands in `rio_key`. `specs/Fill.antt` has what a filler holds and how it
 //! goes on, `specs/Prepare.antt` the entries of a row, `specs/Room.antt` the room that is made beforehand,
 //! `specs/Heads.antt` which trees can be filled and the header of a save, and `specs/Laws.antt` the laws: the written baskets
 //! and the open one are the pending entries of a branch, divided by that rule ([`rows_are_cut`]).
@@ -18,8 +18,6 @@ mod flags;
 mod laws;
 mod places;
 mod prepared;
-#[cfg(test)]
-mod tests;
 
 pub use filler::Filler;
 pub use flags::{Flags, is_flagged};

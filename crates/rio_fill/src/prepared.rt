@@ -2,8 +2,7 @@
 ghost use Rattle.std.specs.Prelude.{◌≡◌, List, length, IfOk, IsTrue};
 ghost use Rattle.rio_leaf.specs.declared.leaf.Leaf.{Leaf as LeafHeld};
 ghost use Rattle.rio_leaf.specs.Stated.{are_stated_branches, is_stated_shape, leaves_of};
-ghost use Rattle.rio_format.specs.Bodies.{Counters};
-ghost use Rattle.rio_format.specs.Counts.{SaysAsFirst};
+ghost use Rattle.rio_format.specs.{Bodies.{Counters}, Counts.{SaysAsFirst}};
 ghost use Rattle.rio_machine.specs.Rows.{shape_columns};
 ghost use Rattle.rio_num.specs.Answers.{GivesUnless};
 ghost use Rattle.rio_machine.specs.declared.entry_fault.EntryFault.TheVariants.{NoMemory as OutOfMemory};
@@ -12,12 +11,11 @@ ghost use Rattle.rio_fill.specs.Prepare.{HaveNumbers, part_written, row_prepared
 ghost use Rattle.rio_fill.specs.Parts.{PutsPart, whole_row};
 
 use crate::branch::OpenBranch;
-use rio_basket::Entries;
+use rio_key::Entries;
 use rio_entry::{EntryFault, Numbers, leaf_counts, note_leaves, value_count, write_entry};
 use rio_leaf::{BranchDef, Leaf, Shape, leaves_of};
 use rio_num::{Bytes, NoMemory};
-use rio_types::Classes;
-use rio_value::{Value, Values, copy};
+use rio_format::{Classes, Value, Values, copy};
 use std::alloc::Global;
 
 /// The bytes of a row, one entry for each branch.

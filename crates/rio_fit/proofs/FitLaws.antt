@@ -2,9 +2,8 @@
 use Rattle.std.proofs.Common.{◌≡◌, ◌≤◌, ◌<◌, ℕ, ◌+◌, List, [], ◌∷◌, length, drop, map, Bool, true, false, Option, Some, None, if◌then◌else◌, not, refl, sym, ap, ◌∙◌, slice_index_or, Ok, arith, inl, inr, length-drop}
 use Rattle.std.proofs.{lemmas.Bool.Decides.{leb_tells}, lemmas.Option.{slice_get_past}, lemmas.List.{drop_more, drop_all}}
 use Rattle.std.specs.{Prelude.{ℤ, is_none, option_and_then, slice_get, unwrap_or}, Option.{option_map}, Str.{bytes_eq}}
-use Rattle.rio_types.specs.declared.kind.Kind.TheVariants.{Counter}
+use Rattle.rio_format.specs.{declared.kind.Kind.TheVariants.{Counter}, Bodies.{Counters}, Fits.{Fitting, Labels, counted_slot, counted_so_far, fields_fit}, Slots.{Field, kinded}}
 use Rattle.rio_format.proofs.FieldLaws.{found_first, none_left, some_left}
-use Rattle.rio_format.specs.{Bodies.{Counters}, Fits.{Fitting, Labels, counted_slot, counted_so_far, fields_fit}, Slots.{Field, kinded}}
 use Rattle.rio_fit.specs.Fitting.{Tells, counter_fits, part_fits}
 
 -- ---- one part

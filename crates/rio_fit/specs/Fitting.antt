@@ -2,8 +2,7 @@
 use Rattle.std.specs.{Prelude.{◌≡◌, ℕ, ℤ, List, ◌∷◌, Bool, true, false, Option, Some, None, Result, Ok, Err, if◌then◌else◌}, Option.{option_map}}
 use Rattle.std.specs.Str.{bytes_eq}
 use Rattle.rio_num.specs.declared.no_memory.NoMemory.{NoMemory}
-use Rattle.rio_types.specs.declared.kind.Kind.TheVariants.{Counter as CounterKind}
-use Rattle.rio_format.specs.{Bodies.{Counters}, Fits.{Fitting, Labels, counted_slot, counted_so_far}, Slots.{kinded}}
+use Rattle.rio_format.specs.{declared.kind.Kind.TheVariants.{Counter as CounterKind}, Bodies.{Counters}, Fits.{Fitting, Labels, counted_slot, counted_so_far}, Slots.{kinded}}
 use Rattle.rio_format.specs.Slots as place
 
 -- It tells whether there are labels behind the value, and the new ones are these.

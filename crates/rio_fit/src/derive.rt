@@ -1,12 +1,10 @@
 //! Which classes may be pointed to.
 ghost use Rattle.std.specs.Prelude.{◌≡◌, ◌==◌, IfOk};
 ghost use Rattle.std.specs.List.{list_any};
-ghost use Rattle.rio_format.specs.Slots.{can_be_put, can_be_word};
-ghost use Rattle.rio_format.specs.Fits.{is_pointer, may_point};
+ghost use Rattle.rio_format.specs.{Slots.{can_be_put, can_be_word}, Fits.{is_pointer, may_point}};
 
-use rio_format::{BuiltIn, ClassLists, Slot, SlotKind, derives_from, is_headed};
+use rio_format::{BuiltIn, ClassLists, Classes, Slot, SlotKind, derives_from, is_headed};
 use rio_num::NoMemory;
-use rio_types::Classes;
 use std::alloc::Global;
 use std::marker::Model;
 

@@ -1,19 +1,15 @@
 //! Which values fit where.
-ghost use Rattle.rio_types.specs.declared.class.ClassDef.{ClassDef as Class};
+ghost use Rattle.rio_format.specs.declared.class.ClassDef.{ClassDef as Class};
 ghost use Rattle.std.specs.Prelude.{◌≡◌, List, [], map, Some, None, IfOk};
-ghost use Rattle.rio_format.specs.Fits.{Labels, all_fit, back_fits, counted_slot, fields_fit, fits, fitting_of, link_fits, list_fits, object_may_stand, part_fitting, parts_fit, pointed_fits};
-ghost use Rattle.rio_format.specs.Slots.{fields_of};
-ghost use Rattle.rio_types.specs.declared.kind.Kind.TheVariants.{Inline};
-ghost use Rattle.rio_value.specs.declared.value.Value.{Value as Given};
+ghost use Rattle.rio_format.specs.{Fits.{Labels, all_fit, back_fits, counted_slot, fields_fit, fits, fitting_of, link_fits, list_fits, object_may_stand, part_fitting, parts_fit, pointed_fits}, Slots.{fields_of}};
+ghost use Rattle.rio_format.specs.{declared.kind.Kind.TheVariants.{Inline}, declared.value.Value.{Value as Given}};
 ghost use Rattle.std.specs.Prelude.{slice_get};
 ghost use Rattle.rio_fit.specs.Fitting.{IsCounterValue, counter_fits, Tells, part_fits};
 
 use crate::derive::{Owner, is_pointer, may_point};
 use crate::fit_numbers::{bits32_fits, bits64_fits, int_fits, text_fits, truth_fits};
-use rio_format::{Counters, Field, Fields, Slot, SlotKind, fields_of};
+use rio_format::{Classes, Counters, Field, Fields, Part, Slot, SlotKind, Value, fields_of};
 use rio_num::{Items, NoMemory};
-use rio_types::Classes;
-use rio_value::{Part, Value};
 use std::alloc::Global;
 
 /// The classes and versions of the objects that have a label, by label.

@@ -1,10 +1,8 @@
 //! Which numbers and other single values fit.
 ghost use Rattle.std.specs.Prelude.{◌≡◌};
-ghost use Rattle.rio_format.specs.Fits.{bits32_fits, bits64_fits, fits_prim, fits_signed, fits_unsigned, int_fits, text_fits, truth_fits};
-ghost use Rattle.rio_format.specs.Slots.{flags};
+ghost use Rattle.rio_format.specs.{Fits.{bits32_fits, bits64_fits, fits_prim, fits_signed, fits_unsigned, int_fits, text_fits, truth_fits}, Slots.{flags}};
 
-use rio_format::{Slot, SlotKind};
-use rio_types::Prim;
+use rio_format::{Prim, Slot, SlotKind};
 
 fn fits_8(n: i128) -> bool
     ensures { result ≡ fits_signed 8 n }

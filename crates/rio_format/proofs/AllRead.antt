@@ -2,9 +2,8 @@
 use Rattle.std.proofs.Common.{◌≡◌, ℕ, ℤ, List, [], ◌∷◌, ◌++◌, map, Bool, true, false, sym, ap, ◌∙◌}
 use Rattle.std.proofs.lemmas.Bool.{and_parts}
 use Rattle.std.specs.List.{list_all}
-use Rattle.rio_value.specs.{declared.value.Value.{Value, List as Items, Object, Pointed, Opaque, TheFolds.{fold-Part, fold_out-Part}}, declared.value.Part.{Part}}
+use Rattle.rio_format.specs.{declared.value.Value.{Value, List as Items, Object, Pointed, Opaque, TheFolds.{fold-Part, fold_out-Part}}, declared.value.Part.{Part}, Growth.{all_read_step, is_all_read}}
 use Rattle.rio_format.proofs.ValueCases.{Each, fold_List, fold_Object, fold_Opaque, fold_Pointed}
-use Rattle.rio_format.specs.Growth.{all_read_step, is_all_read}
 
 abbrev pub AllRead : Value → Type 0
 AllRead v = is_all_read v ≡ true

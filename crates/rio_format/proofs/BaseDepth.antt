@@ -4,8 +4,7 @@ use Rattle.std.proofs.lemmas.Bool.Decides.{Decides-int_eq}
 use Rattle.std.specs.{Prelude.{ℤ, pos, codes, find}, Cmp.Lexicographic.{same_text}, List.{list_any}, Option.{option_map}, Ordering.{int_eq}}
 use Rattle.std.specs.Str.{bytes_eq}
 use Rattle.rio_num.proofs.Cases.{any_weaker, either}
-use Rattle.rio_types.specs.{Classes.{find_in}, declared.class.Base.{Base}, declared.class.ClassDef.{ClassDef}}
-use Rattle.rio_format.specs.Bodies.{Body, described, built_in, form_of, headed_classes, t_object_base}
+use Rattle.rio_format.specs.{Classes.{find_in}, declared.class.Base.{Base}, declared.class.ClassDef.{ClassDef}, Bodies.{Body, described, built_in, form_of, headed_classes, t_object_base}}
 use Rattle.rio_format.specs.Slots.{body_bases, declared_body, has_base, headed_body, is_headed}
 use Rattle.rio_format.proofs.BuiltInLaws.{of_body}
 

@@ -5,10 +5,8 @@ use Rattle.std.proofs.lemmas.List.{append-nil, take_more, Elements.{All-append, 
 use Rattle.std.proofs.{lemmas.Option.{get_or_from_slice_get}, lemmas.Slice.Eq.{bytes_eq-Decides}}
 use Rattle.std.specs.{Prelude.{ℤ, not}, Cmp.Lexicographic.{same_text}, List.{All, Contains, list_all, list_any, slice_get}, Ordering.{int_eq}, Str.{bytes_eq}}
 use Rattle.rio_num.proofs.Cases.{any_weaker, both_or_none, either}
-use Rattle.rio_types.specs.{declared.class.Base.{Base}, declared.class.ClassDef.{ClassDef}}
-use Rattle.rio_format.specs.{Bodies.{Body}, Slots.{body_bases, has_base, headed_body}}
-use Rattle.rio_format.specs.Bases.{Expanded, HasVisitedBases, HaveVisitedBases, Pushed, any_below, any_direct, are_targets, are_visited, has_among, visit_bases}
-use Rattle.rio_format.specs.Visits.{base_of, is_visited, same_base, with_visit}
+use Rattle.rio_format.specs.{declared.class.Base.{Base}, declared.class.ClassDef.{ClassDef}, Bodies.{Body}, Slots.{body_bases, has_base, headed_body}}
+use Rattle.rio_format.specs.{Bases.{Expanded, HasVisitedBases, HaveVisitedBases, Pushed, any_below, any_direct, are_targets, are_visited, has_among, visit_bases}, Visits.{base_of, is_visited, same_base, with_visit}}
 
 and_both : (a b : Bool) → a ≡ true → b ≡ true → (a && b) ≡ true
 and_both a b e h = rw (e, h) refl

@@ -1,17 +1,14 @@
 -- An object is spelled by its own bytes, whatever follows them.
 use Rattle.std.proofs.Common.{◌≡◌, ◌==◌, ℕ, zero, suc, ◌+◌, ◌-◌, ◌*◌, ◌^◌, ◌≤◌, ℤ, pos, negsuc, nat_le, nat_lt, Bool, true, false, List, [], ◌∷◌, length, codes, Some, None, refl, ap, subst, arith}
 use Rattle.std.proofs.{lemmas.Bool.{eqb-true}, lemmas.List.{length-append}}
-use Rattle.rio_types.specs.{declared.class.Base.{Base}, declared.class.ClassDef.{ClassDef}, declared.class.Member.{Member}}
-use Rattle.rio_types.specs.declared.kind.Kind.{Kind, TheVariants.{Plain, Counter, Fixed, Counted, Text as Texted, Inline, Pointer, Other}}
-use Rattle.rio_types.specs.declared.kind.Primitive.{Primitive, TheVariants.{I32}}
-use Rattle.rio_value.specs.declared.value.Part.{Part}
-use Rattle.rio_format.specs.Bodies.{Form, bare, numbers as numbered, headed as with_header, form_of, Body, described, listed, arrayed, opaque, body_of, Counters, counters_with, count_by}
+use Rattle.rio_format.specs.{declared.class.Base.{Base}, declared.class.ClassDef.{ClassDef}, declared.class.Member.{Member}}
+use Rattle.rio_format.specs.{declared.kind.Kind.{Kind, TheVariants.{Plain, Counter, Fixed, Counted, Text as Texted, Inline, Pointer, Other}}, declared.kind.Primitive.{Primitive, TheVariants.{I32}}}
+use Rattle.rio_format.specs.{declared.value.Part.{Part}, Bodies.{Form, bare, numbers as numbered, headed as with_header, form_of, Body, described, listed, arrayed, opaque, body_of, Counters, counters_with, count_by}}
 use Rattle.rio_format.specs.Prims.{width_of}
 use Rattle.rio_format.specs.Objects.{has_pid, Objects, pointed, pointer, number_value, numbers, filled, counted_values, text_value, kind_value, member_part, member_parts, base_part, parts, count_of, link, list_parts, array_parts, pid_of, bare_layout, number_array, closed as closed_by, whole_object, unread, body, headed, formed, object_of}
-use Rattle.rio_buffer.specs.{ReaderState.{WordsMet, with_label, with_name}, declared.words.Header.{Header}}
-use Rattle.rio_buffer.specs.declared.words.PointerWord.{PointerWord, TheVariants.{Null, New, Back}}
-use Rattle.rio_buffer.specs.declared.fault.ObjFault.{ObjFault, TheVariants.{Short, BadCount, NoCount, CountMismatch}}
-use Rattle.rio_buffer.specs.Frames.{ObjLayout, is_count, end_of, finish, header_end, checksum_behind, header, new_class, class_word, new_word, pointer_word}
+use Rattle.rio_format.specs.{ReaderState.{WordsMet, with_label, with_name}, declared.words.Header.{Header}, declared.words.PointerWord.{PointerWord, TheVariants.{Null, New, Back}}}
+use Rattle.rio_format.specs.declared.fault.ObjFault.{ObjFault, TheVariants.{Short, BadCount, NoCount, CountMismatch}}
+use Rattle.rio_format.specs.Frames.{ObjLayout, is_count, end_of, finish, header_end, checksum_behind, header, new_class, class_word, new_word, pointer_word}
 use Rattle.rio_num.specs.{Layout.{behind, must}, Meanings.{Spells}}
 use Rattle.rio_num.proofs.Within.{Within, Closed, IsLong, GoesTo, IsFree, closed_behind, closed_over, within_behind, long_first, long_next, goes_first, goes_next, closed_done, closed_broken, closed_number, closed_text, closed_any, closed_here, closed_choice, closed_must, closed_each, closed_times, within_free, within_choice, free_number, free_here, free_name, free_met, free_note, free_done, free_broken, free_known, free_choice, free_behind, free_must, long_number, long_times}
 

@@ -3,13 +3,10 @@ use Rattle.std.specs.Prelude.{◌≡◌, ◌⊎◌, ℕ, zero, suc, ◌+◌, ◌
 use Rattle.std.specs.Map.{lookup}
 use Rattle.byteorder.specs.Endian.{big_bytes}
 use Rattle.rio_num.specs.{Text.{SpellsText}, Meanings.{HasNoZero}}
-use Rattle.rio_types.specs.{declared.class.ClassDef.{ClassDef}, declared.class.Member.{Member}}
-use Rattle.rio_types.specs.declared.kind.Kind.{Kind, TheVariants.{Plain, Counter, Fixed, Counted, Text as Texted, Inline, Pointer, Other}}
-use Rattle.rio_types.specs.declared.kind.Primitive.{Primitive, TheVariants.{I32}}
-use Rattle.rio_value.specs.{declared.value.Value.{Value, Text, List as Items, Object, Pointed, Null, Back, Opaque}, declared.value.Part.{Part}}
+use Rattle.rio_format.specs.{declared.class.ClassDef.{ClassDef}, declared.class.Member.{Member}, declared.kind.Kind.{Kind, TheVariants.{Plain, Counter, Fixed, Counted, Text as Texted, Inline, Pointer, Other}}}
+use Rattle.rio_format.specs.{declared.kind.Primitive.{Primitive, TheVariants.{I32}}, declared.value.Value.{Value, Text, List as Items, Object, Pointed, Null, Back, Opaque}, declared.value.Part.{Part}}
 use Rattle.rio_format.specs.Bodies.{part, Form, bare, numbers, headed, form_of, Body, described, listed, arrayed, opaque, body_of, slots_of, Counters, counters_with, count_by}
-use Rattle.rio_format.specs.{Objects.{has_pid, bare_object, pid_part}, Prims.{width_of, value_of_prim}}
-use Rattle.rio_buffer.specs.{Frames.{is_count}, ReaderState.{WordsMet, with_label, with_name}}
+use Rattle.rio_format.specs.{Objects.{has_pid, bare_object, pid_part}, Prims.{width_of, value_of_prim}, Frames.{is_count}, ReaderState.{WordsMet, with_label, with_name}}
 
 -- Bytes whose first has the place, behind these words, spell this value, and these words stand before what follows.
 abbrev pub Spelling : Type 0 → Type 1

@@ -2,10 +2,7 @@
 use Rattle.std.proofs.Common.{◌≡◌, inl, inr, ℕ, ◌+◌, ◌*◌, ◌/◌, ◌<◌, ◌≤◌, List, [], ◌∷◌, ◌++◌, length, replicate, ap, ◌∙◌, arith}
 use Rattle.std.proofs.{lemmas.List.{length-append, length-replicate}, Math.Nat.{suc-mul, le-div_iff_mul-le}}
 use Rattle.byteorder.specs.Numbers.{length-bytes_high_first}
-use Rattle.rio_types.specs.declared.kind.Primitive.{Primitive, TheVariants.{I8, I16, I32, I64, U8, U16, U32, U64, Bool as Boolean, F32, F64}}
-use Rattle.rio_value.specs.declared.value.Value.{Value}
-use Rattle.rio_buffer.specs.ReaderState.{WordsMet}
-use Rattle.rio_format.specs.Prims.{width_of}
+use Rattle.rio_format.specs.{declared.kind.Primitive.{Primitive, TheVariants.{I8, I16, I32, I64, U8, U16, U32, U64, Bool as Boolean, F32, F64}}, declared.value.Value.{Value}, ReaderState.{WordsMet}, Prims.{width_of}}
 use Rattle.rio_format.proofs.Composed.{Spelling, Spellings, SpellsEach, SpellsTimes, SpellsNumber, SpellsPointer, IsLink}
 
 -- each of them has so many bytes at least

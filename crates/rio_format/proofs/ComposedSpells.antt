@@ -3,18 +3,15 @@ use Rattle.std.proofs.Common.{◌≡◌, ◌==◌, inl, inr, ℕ, zero, suc, ◌
 use Rattle.std.proofs.{lemmas.Bool.{le-ltb, lt-ltb, le-leb, eq-eqb, ne_eqb}, lemmas.List.{length-append, append-nil}}
 use Rattle.std.specs.Map.{lookup}
 use Rattle.byteorder.specs.{Endian.{big_bytes}, Numbers.{length-bytes_high_first}}
-use Rattle.rio_types.specs.{declared.class.Base.{Base}, declared.class.ClassDef.{ClassDef}, declared.class.Member.{Member}}
-use Rattle.rio_types.specs.declared.kind.Kind.{Kind, TheVariants.{Plain, Counter, Fixed, Counted, Text as Texted, Inline, Pointer, Other}}
-use Rattle.rio_types.specs.declared.kind.Primitive.{Primitive, TheVariants.{I32}}
-use Rattle.rio_value.specs.declared.value.Value.{Value, Text, List as Items, Object, Pointed, Null as Nothing, Back as Earlier, Opaque}
-use Rattle.rio_value.specs.declared.value.Part.{Part}
+use Rattle.rio_format.specs.{declared.class.Base.{Base}, declared.class.ClassDef.{ClassDef}, declared.class.Member.{Member}}
+use Rattle.rio_format.specs.{declared.kind.Kind.{Kind, TheVariants.{Plain, Counter, Fixed, Counted, Text as Texted, Inline, Pointer, Other}}, declared.kind.Primitive.{Primitive, TheVariants.{I32}}}
+use Rattle.rio_format.specs.{declared.value.Value.{Value, Text, List as Items, Object, Pointed, Null as Nothing, Back as Earlier, Opaque}, declared.value.Part.{Part}}
 use Rattle.rio_num.specs.Layout.{done, name, text, each, times, ◌>>=◌}
 use Rattle.rio_num.proofs.Intro.{IsSo, so_by, first_is, second_is, here_then, reaches_then, met_then, number_then, still_then, note_then, done_is, known_is, ends_with, both_are, any_is}
 use Rattle.rio_num.proofs.Within.{IsLong, long_times}
-use Rattle.rio_buffer.specs.Frames.{ObjLayout, is_count, counted_end, end_of, finish, checksum_behind, header, new_class, class_word, new_word, pointer_word}
-use Rattle.rio_buffer.specs.{ReaderState.{WordsMet, with_label, with_name}, declared.words.Header.{Header}}
-use Rattle.rio_buffer.specs.declared.words.PointerWord.TheVariants.{Null, New, Back}
-use Rattle.rio_buffer.specs.declared.fault.ObjFault.TheVariants.{Short, UnknownClassWord, UnknownRef}
+use Rattle.rio_format.specs.Frames.{ObjLayout, is_count, counted_end, end_of, finish, checksum_behind, header, new_class, class_word, new_word, pointer_word}
+use Rattle.rio_format.specs.{ReaderState.{WordsMet, with_label, with_name}, declared.words.Header.{Header}, declared.words.PointerWord.TheVariants.{Null, New, Back}}
+use Rattle.rio_format.specs.declared.fault.ObjFault.TheVariants.{Short, UnknownClassWord, UnknownRef}
 use Rattle.rio_format.specs.Bodies.{part, Form, bare, numbers as numbered, headed as with_header, form_of, Body, described, listed, arrayed, opaque, body_of, base_slot, Counters, counters_with, count_by}
 use Rattle.rio_format.specs.Objects.{Objects, has_pid, bare_object, pid_part, pointed, pointer, number_value, numbers, filled, counted_values, text_value, kind_value, member_part, member_parts, base_part, parts, count_of, link, list_parts, array_parts, pid_of, bare_layout, number_array, closed, whole_object, unread, body, headed, formed, object_of}
 use Rattle.rio_format.specs.Prims.{width_of}

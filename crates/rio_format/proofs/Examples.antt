@@ -3,14 +3,12 @@ use Rattle.std.proofs.Common.{◌≡◌, ℕ, pos, List, [], ◌∷◌, ◌++◌
 use Rattle.std.specs.Prelude.{codes}
 use Rattle.byteorder.specs.Endian.{big_bytes}
 use Rattle.rio_num.specs.{Reading.{text_at}, Layout.{each}}
-use Rattle.rio_types.specs.{declared.class.ClassDef.{ClassDef}, declared.kind.Kind.TheVariants.{Plain, Inline, Pointer}}
-use Rattle.rio_types.specs.declared.kind.Primitive.TheVariants.{I32}
-use Rattle.rio_value.specs.declared.value.Value.{Value, Int, Text, Object, Pointed, Null, Back, Opaque}
+use Rattle.rio_format.specs.{declared.class.ClassDef.{ClassDef}, declared.kind.Kind.TheVariants.{Plain, Inline, Pointer}, declared.kind.Primitive.TheVariants.{I32}}
+use Rattle.rio_format.specs.declared.value.Value.{Value, Int, Text, Object, Pointed, Null, Back, Opaque}
 use Rattle.rio_format.specs.{Bodies.{part, member}, Fits.{fits, fitting_step}, Slots.{kinded}, Written.{Writing, written_form, writing_step, writing_of}}
 use Rattle.rio_format.specs.Objects.{value_at, object_of, formed, headed, body, whole_object, closed, parts, base_part, member_part, member_parts, kind_value, number_value, count_of, text_value, pointer, pointed, bare_layout, list_parts, link, unread}
-use Rattle.rio_value.specs.declared.value.Value.TheOpen as layer
-use Rattle.rio_buffer.specs.{ReaderState.{no_words}, Frames.{header, pointer_word, new_word, class_word, new_class}}
-use Rattle.rio_buffer.specs.declared.fault.ObjFault.TheVariants.{CountMismatch}
+use Rattle.rio_format.specs.declared.value.Value.TheOpen as layer
+use Rattle.rio_format.specs.{ReaderState.{no_words}, Frames.{header, pointer_word, new_word, class_word, new_class}, declared.fault.ObjFault.TheVariants.{CountMismatch}}
 use Rattle.rio_format.proofs.{ValueCases.{fold_Int, fold_Pointed, fold_Back}, WrittenValues.{fit_object, write_object}}
 
 node_class : ClassDef

@@ -1,10 +1,9 @@
 -- Some bytes, and how they break: the first fault of each kind, with its place.
 use Rattle.std.proofs.Common.{◌<◌, pos, [], ◌∷◌, ◌++◌, codes, None, inl, inr, refl, arith, lit<, lit≤}
 use Rattle.byteorder.specs.Endian.{big_bytes}
-use Rattle.rio_types.specs.declared.kind.Primitive.TheVariants.{U8}
+use Rattle.rio_format.specs.{declared.kind.Primitive.TheVariants.{U8}, Frames.{class_word, finish, header, pointer_word}, ReaderState.{WordsMet, no_words}}
 use Rattle.rio_num.specs.{Layout.{number}, Meanings.{Breaks}}
-use Rattle.rio_buffer.specs.{Frames.{class_word, finish, header, pointer_word}, ReaderState.{WordsMet, no_words}}
-use Rattle.rio_buffer.specs.declared.fault.ObjFault.{ObjFault, TheVariants.{Short, BadCount, UnknownClassWord, UnknownRef, NoCount, BadFlag, CountMismatch, TooDeep}}
+use Rattle.rio_format.specs.declared.fault.ObjFault.{ObjFault, TheVariants.{Short, BadCount, UnknownClassWord, UnknownRef, NoCount, BadFlag, CountMismatch, TooDeep}}
 use Rattle.rio_format.specs.Objects.{BreaksObject, bare_layout, body, count_of, counted_values, formed, headed, object_of, unread}
 
 -- nothing stands where a header is wanted

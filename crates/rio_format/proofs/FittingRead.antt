@@ -3,16 +3,12 @@ use Rattle.std.proofs.Common.{◌≡◌, ◌==◌, ℕ, ℤ, List, [], ◌∷◌
 use Rattle.std.proofs.lemmas.Bool.{and_from}
 use Rattle.std.specs.{Prelude.{option_and_then}, List.{list_all}, Str.{bytes_eq}}
 use Rattle.rio_num.proofs.Cases.{if_some, some_of}
-use Rattle.rio_types.specs.declared.class.ClassDef.{ClassDef}
-use Rattle.rio_types.specs.declared.kind.Kind.TheVariants.{Plain, Counter, Fixed, Counted, Text as Texted, Inline, Pointer, Other}
-use Rattle.rio_value.specs.{declared.value.Value.{Value, List as Items, Object, Pointed, Opaque}, declared.value.Part.{Part}}
-use Rattle.rio_format.specs.Bodies.{Counters}
+use Rattle.rio_format.specs.{declared.class.ClassDef.{ClassDef}, declared.kind.Kind.TheVariants.{Plain, Counter, Fixed, Counted, Text as Texted, Inline, Pointer, Other}}
+use Rattle.rio_format.specs.{declared.value.Value.{Value, List as Items, Object, Pointed, Opaque}, declared.value.Part.{Part}, Bodies.{Counters}}
 use Rattle.rio_format.specs.Fits.{Fitting, Labels, all_fit, counted_slot, counted_so_far, fields_fit, fitting_of, fitting_step, link_fits, list_fits, may_point, object_may_stand, parts_fit, pointed_fits}
-use Rattle.rio_format.specs.Slots.{Field, Slot, fields_of, kinded, based, flags, any_pointer, link, many}
+use Rattle.rio_format.specs.{Slots.{Field, Slot, fields_of, kinded, based, flags, any_pointer, link, many}, Growth.{FittingIsAllRead, all_read_step, is_all_read}}
 use Rattle.rio_format.proofs.ValueCases.{Each, by_cases, fold_Int, fold_Bits32, fold_Bits64, fold_Bool, fold_Text, fold_List, fold_Pointed, fold_Null, fold_Back, fold_Opaque}
-use Rattle.rio_format.proofs.{WrittenLists.{fittings}, WrittenValues.{fit_object}}
-use Rattle.rio_format.specs.Growth.{FittingIsAllRead, all_read_step, is_all_read}
-use Rattle.rio_format.proofs.AllRead.{items_layer, parts_layer, pointed_layer}
+use Rattle.rio_format.proofs.{WrittenLists.{fittings}, WrittenValues.{fit_object}, AllRead.{items_layer, parts_layer, pointed_layer}}
 
 then_some : {A B : Type 0} (k : A → Option B) (x : Option A) (b : B) → option_and_then k x ≡ Some b → (a : A) × (x ≡ Some a) × (k a ≡ Some b)
 then_some k None b e = absurd cc

@@ -1,8 +1,6 @@
 -- With one class more a value that fits its class is read as it was.
 use Rattle.std.proofs.Common.{◌+◌, [], ◌∷◌, ◌++◌, length}
-use Rattle.rio_buffer.specs.ReaderState.{no_words, standing}
-use Rattle.rio_format.specs.Objects.{SpellsObject, depth_limit}
-use Rattle.rio_format.specs.Growth.{FittingReadStays, FittingSpelledStays, ReadStays, SpelledStays}
+use Rattle.rio_format.specs.{ReaderState.{no_words, standing}, Objects.{SpellsObject, depth_limit}, Growth.{FittingReadStays, FittingSpelledStays, ReadStays, SpelledStays}}
 use Rattle.rio_format.proofs.{FittingRead.{fitting_is_all_read}, ObjectStays.{object_stays}, Picks.{later_leave_picks}}
 
 pub read_stays : ReadStays

@@ -2,8 +2,7 @@
 use Rattle.std.proofs.Common.{◌≡◌, ℤ, List, [], ◌∷◌, ◌++◌, Bool, true, false, if◌then◌else◌, ◌&&◌, Option, Some, None, refl, ap, ◌∙◌, arith}
 use Rattle.std.proofs.{lemmas.Grind.{common_steps}, lemmas.List.Folds.{find-append}}
 use Rattle.std.specs.{Prelude.{ℕ}, Str.{bytes_eq}, Option.{option_or}, Ordering.{int_eq}}
-use Rattle.rio_types.specs.{Classes.{find_in, newer_of, newest_in}, declared.class.ClassDef.{ClassDef}}
-use Rattle.rio_format.specs.Lists.{newer_of_two}
+use Rattle.rio_format.specs.{Classes.{find_in, newer_of, newest_in}, declared.class.ClassDef.{ClassDef}, Lists.{newer_of_two}}
 
 newer_of_three : (d e c : ClassDef) → newer_of d (Some (newer_of e (Some c))) ≡ newer_of (newer_of d (Some e)) (Some c)
 newer_of_three d e c = grind (arith, common_steps)

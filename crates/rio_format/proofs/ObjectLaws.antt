@@ -3,10 +3,8 @@ use Rattle.std.proofs.Common.{◌≡◌, ◌⊎◌, inl, inr, ℕ, ◌+◌, ◌�
 use Rattle.std.proofs.lemmas.List.{append_cancel_right, length-append}
 use Rattle.rio_num.specs.At.{AreBytes}
 use Rattle.rio_num.proofs.ReadLaws.{ok_is}
-use Rattle.rio_types.specs.declared.class.ClassDef.{ClassDef}
-use Rattle.rio_value.specs.declared.value.Value.{Value}
+use Rattle.rio_format.specs.{declared.class.ClassDef.{ClassDef}, declared.value.Value.{Value}, Frames.{Step}, ReaderState.{ReaderState, no_words, standing}, declared.fault.ObjFault.{ObjFault}}
 use Rattle.rio_num.proofs.Agree as Agree
-use Rattle.rio_buffer.specs.{Frames.{Step}, ReaderState.{ReaderState, no_words, standing}, declared.fault.ObjFault.{ObjFault}}
 use Rattle.rio_format.specs.Laws.{BrokenIsFault, BrokenIsNotSpelled, FaultIsBroken, FaultIsNotSpelled, IsBrokenOnce, IsSpelledOnce, ReadIsSpelled, SpelledIsRead, SpelledOrBroken}
 use Rattle.rio_format.specs.Objects.{BreaksObject, SpellsObject, depth_limit, first_at, object_of, only_value, value_at}
 use Rattle.rio_format.proofs.Closed.{closed_object}

@@ -1,16 +1,13 @@
 -- What is read of an object, if all of it is, is read of it too where the same classes are picked.
 use Rattle.std.proofs.Common.{◌≡◌, ◌⊎◌, inl, inr, ℕ, zero, suc, ℤ, pos, List, [], ◌∷◌, ◌++◌, codes, sym, subst}
-use Rattle.rio_types.specs.{declared.class.Base.{Base}, declared.class.ClassDef.{ClassDef}, declared.class.Member.{Member}}
-use Rattle.rio_types.specs.declared.kind.Kind.{Kind, TheVariants.{Plain, Counter, Fixed, Counted, Text as Texted, Inline, Pointer, Other}}
-use Rattle.rio_value.specs.{declared.value.Value.{Text, List as Items, Object, Pointed}, declared.value.Part.{Part}}
-use Rattle.rio_buffer.specs.{Frames.{ObjLayout, header, pointer_word}, declared.words.Header.{Header}}
-use Rattle.rio_buffer.specs.declared.words.PointerWord.{PointerWord, TheVariants.{Null, New, Back}}
-use Rattle.rio_format.specs.declared.form.Form.{Form, TheVariants.{Bare as bare, Numbers as numbered, Headed as with_header}}
+use Rattle.rio_format.specs.{declared.class.Base.{Base}, declared.class.ClassDef.{ClassDef}, declared.class.Member.{Member}}
+use Rattle.rio_format.specs.declared.kind.Kind.{Kind, TheVariants.{Plain, Counter, Fixed, Counted, Text as Texted, Inline, Pointer, Other}}
+use Rattle.rio_format.specs.{declared.value.Value.{Text, List as Items, Object, Pointed}, declared.value.Part.{Part}, Frames.{ObjLayout, header, pointer_word}, declared.words.Header.{Header}}
+use Rattle.rio_format.specs.{declared.words.PointerWord.{PointerWord, TheVariants.{Null, New, Back}}, declared.form.Form.{Form, TheVariants.{Bare as bare, Numbers as numbered, Headed as with_header}}}
 use Rattle.rio_format.specs.Bodies.{part, form_of, Body, described, listed, arrayed, opaque, Counters, counters_with}
 use Rattle.rio_format.specs.Objects.{Objects, array_parts, base_part, body, closed, formed, headed, kind_value, link, list_parts, member_part, member_parts, object_of, parts, pointed, pointer, unread, whole_object}
-use Rattle.rio_format.proofs.ValueCases.{Each}
+use Rattle.rio_format.proofs.{ValueCases.{Each}, AllRead.{AllRead, PartRead, each_back, each_front, items_read, opaque_unread, parts_read, pointed_read}, Picks.{body_stays}}
 use Rattle.rio_format.specs.Growth.{PicksStay}
-use Rattle.rio_format.proofs.{AllRead.{AllRead, PartRead, each_back, each_front, items_read, opaque_unread, parts_read, pointed_read}, Picks.{body_stays}}
 use Rattle.rio_format.proofs.Stays.{Stays, Gives, behind_gives, behind_stays, done_gives, each_stays, made_stays, never_stays, next_stays, same_stays, times_stays}
 
 -- nothing that isn't read passes

@@ -1,10 +1,8 @@
 -- What a header picks of some classes it picks of more classes, and what stands behind the header is the same, or nothing was read.
 use Rattle.std.proofs.Common.{◌≡◌, ◌⊎◌, inl, inr, ◌==◌, ℕ, ℤ, pos, List, [], ◌∷◌, ◌++◌, Bool, true, false, cond, ◌&&◌, find, Option, Some, None, refl, ap}
 use Rattle.std.specs.{Prelude.{unwrap_or}, Option.{option_map_or}, Ordering.{int_eq}, Str.{bytes_eq}}
-use Rattle.rio_types.specs.{Classes.{find_in, find_sum_in}, declared.class.ClassDef.{ClassDef}}
-use Rattle.rio_format.specs.Bodies.{Body, opaque, body_of, built_in, by_description, headed_classes}
+use Rattle.rio_format.specs.{Classes.{find_in, find_sum_in}, declared.class.ClassDef.{ClassDef}, Bodies.{Body, opaque, body_of, built_in, by_description, headed_classes}, Growth.{LaterLeavePicks, PicksStay}}
 use Rattle.rio_format.proofs.BuiltInLaws.{of_body}
-use Rattle.rio_format.specs.Growth.{LaterLeavePicks, PicksStay}
 
 -- ---- classes behind others
 

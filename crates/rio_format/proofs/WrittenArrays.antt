@@ -3,15 +3,12 @@ use Rattle.std.proofs.Common.{◌≡◌, ℕ, suc, ◌+◌, ◌^◌, ◌<◌, �
 use Rattle.std.proofs.{lemmas.List.{length-append}, lemmas.Option.{option_and_then_some}}
 use Rattle.std.specs.Option.{option_and_then}
 use Rattle.byteorder.specs.Endian.{big_bytes}
-use Rattle.rio_types.specs.{declared.class.ClassDef.{ClassDef}, declared.kind.Kind.TheVariants.{Plain, Text as Texted}}
-use Rattle.rio_types.specs.declared.kind.Primitive.TheVariants.{I32}
-use Rattle.rio_value.specs.declared.value.Part.{Part}
+use Rattle.rio_format.specs.{declared.class.ClassDef.{ClassDef}, declared.kind.Kind.TheVariants.{Plain, Text as Texted}, declared.kind.Primitive.TheVariants.{I32}, declared.value.Part.{Part}}
 use Rattle.rio_format.specs.{Bodies.{part, Counters}, Fits.{Labels, Fitting, fields_fit, counted_slot, counted_so_far}}
-use Rattle.rio_format.specs.{Slots.{Slot, kinded, based, any_pointer, link, many, Field, field}, Written.{listed_bytes, arrayed_bytes, writing_of}}
+use Rattle.rio_format.specs.{Slots.{Slot, kinded, based, any_pointer, link, many, Field, field}, Written.{listed_bytes, arrayed_bytes, writing_of}, ReaderState.{WordsMet}}
 use Rattle.rio_format.proofs.{Composed.{Spellings, SpellsTimes, SpellsPointer, IsListParts, IsArrayParts, IsLink}, ComposedLengths.{pointer_long, link_long}}
 use Rattle.rio_format.proofs.{WrittenPlaces.{Stands, stands_more}, WrittenWays.{in_slot, SpellsSlot, last_place}}
 use Rattle.rio_format.proofs.{WrittenLists.{AreKnown, fittings, writings, stands_at, some_is}, WrittenBodies.{first_fits, times_low, count_of_list}}
-use Rattle.rio_buffer.specs.ReaderState.{WordsMet}
 
 -- there are as many parts as slots
 same_length : (fs : List Field) (ys : List (List ℕ × Fitting)) (counters : Counters) (before after : Labels) → fields_fit fs ys counters before ≡ Some after → length ys ≡ length fs

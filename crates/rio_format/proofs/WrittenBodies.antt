@@ -3,14 +3,13 @@ use Rattle.std.proofs.Common.{◌≡◌, ℕ, ◌+◌, ◌/◌, ◌<◌, ◌≤�
 use Rattle.std.proofs.{lemmas.List.{length-append, length-map, append-nil}, lemmas.Option.{option_and_then_some}, Math.Nat.{div-le_self}}
 use Rattle.std.specs.{Option.{option_and_then}, Str.{bytes_eq}}
 use Rattle.byteorder.specs.Endian.{big_bytes}
-use Rattle.rio_types.specs.{declared.class.ClassDef.{ClassDef}, declared.kind.Kind.TheVariants.{Plain}, declared.kind.Primitive.{Primitive, TheVariants.{U32}}}
-use Rattle.rio_value.specs.{declared.value.Value.{Value, List as Items, Object}, declared.value.Part.{Part}}
+use Rattle.rio_format.specs.{declared.class.ClassDef.{ClassDef}, declared.kind.Kind.TheVariants.{Plain}, declared.kind.Primitive.{Primitive, TheVariants.{U32}}}
+use Rattle.rio_format.specs.{declared.value.Value.{Value, List as Items, Object}, declared.value.Part.{Part}}
 use Rattle.rio_format.specs.{Bodies.{part}, Fits.{Labels, fields_fit, fitting_of}, Prims.{width_of}, Slots.{Slot, bare_fields, kinded, flags, many, Field, field}}
-use Rattle.rio_format.specs.Written.{Writing, bare_bytes, number_array_bytes, writing_step, writing_of}
+use Rattle.rio_format.specs.{Written.{Writing, bare_bytes, number_array_bytes, writing_step, writing_of}, ReaderState.{WordsMet}}
 use Rattle.rio_format.proofs.{Composed.{Spelling, Spellings, SpellsTimes, SpellsNumber, SpellsPid, IsBare, IsArray}, Tests.{named_as}}
 use Rattle.rio_format.proofs.{ComposedLengths.{IsLong, times_room, number_long, width_some}, ValueCases.{fold_List}, WrittenPlaces.{Stands, stands_more}}
 use Rattle.rio_format.proofs.{WrittenWays.{in_slot, last_place}, WrittenLists.{AreKnown, fittings, writings, stands_at, some_is}}
-use Rattle.rio_buffer.specs.ReaderState.{WordsMet}
 
 -- how many there are is no more than how many bytes they have
 pub times_low : (n width : ℕ) (spells : Spelling Value) → 0 < width → IsLong width spells → (p : ℕ) (t : WordsMet) (ys : List Value) (bytes : List ℕ) (t' : WordsMet) → SpellsTimes n spells p t ys bytes t' → n ≤ length bytes

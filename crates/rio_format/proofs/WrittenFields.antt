@@ -2,19 +2,14 @@
 use Rattle.std.proofs.Common.{◌≡◌, ◌&&◌, ◌||◌, ℕ, ◌+◌, ◌≤◌, ℤ, pos, negsuc, Bool, true, false, cond, List, [], ◌∷◌, ◌++◌, length, map, unwrap_or, Option, Some, None, refl, sym, ap, subst, ◌∙◌, arith}
 use Rattle.std.proofs.{lemmas.List.{length-append}, lemmas.Option.{option_and_then_some}}
 use Rattle.std.specs.{List.{list_any}, Map.{lookup}, Str.{bytes_eq}}
-use Rattle.rio_types.specs.{declared.class.Base.{Base}, declared.class.Member.{Member}, declared.class.ClassDef.{ClassDef}}
-use Rattle.rio_types.specs.declared.kind.Kind.{Kind, TheVariants.{Plain, Counter, Fixed, Counted, Text as Texted, Inline, Pointer, Other}}
-use Rattle.rio_types.specs.{declared.kind.Primitive.{Primitive}, Members.{can_read, can_read_all, names_with}}
-use Rattle.rio_value.specs.declared.value.Value.{Value, out-Value, map-Value, TheOpen.{Value-F}, TheFolds.{fold_out-Value, fold-Part}}
-use Rattle.rio_value.specs.{declared.value.Part.{Part}, Accessors.{number_in}}
-use Rattle.rio_value.specs.declared.value.Value.TheOpen as layer
-use Rattle.rio_format.specs.Bodies.{part, Counters, counters_with, count_by, base_slot}
-use Rattle.rio_format.specs.Fits.{Labels, Fitting, fields_fit, fixed_by, counted_slot, counted_so_far, fitting_step, fitting_of}
-use Rattle.rio_format.specs.{Slots.{kinded, based, base_field, member_field}, Written.{fields_bytes, writing_of}}
-use Rattle.rio_format.proofs.{Composed.{Spellings, SpellsKind, SpellsCounted, SpellsEach, IsPart}, Tests.{named_as}, WrittenPlaces.{Stands}}
-use Rattle.rio_format.proofs.WrittenWays.{in_slot, in_counted, in_none, last_place}
+use Rattle.rio_format.specs.{declared.class.Base.{Base}, declared.class.Member.{Member}, declared.class.ClassDef.{ClassDef}}
+use Rattle.rio_format.specs.{declared.kind.Kind.{Kind, TheVariants.{Plain, Counter, Fixed, Counted, Text as Texted, Inline, Pointer, Other}}, declared.kind.Primitive.{Primitive}, Members.{can_read, can_read_all, names_with}}
+use Rattle.rio_format.specs.{declared.value.Value.{Value, out-Value, map-Value, TheOpen.{Value-F}, TheFolds.{fold_out-Value, fold-Part}}, declared.value.Part.{Part}, Accessors.{number_in}}
+use Rattle.rio_format.specs.declared.value.Value.TheOpen as layer
+use Rattle.rio_format.specs.{Bodies.{part, Counters, counters_with, count_by, base_slot}, Fits.{Labels, Fitting, fields_fit, fixed_by, counted_slot, counted_so_far, fitting_step, fitting_of}}
+use Rattle.rio_format.specs.{Slots.{kinded, based, base_field, member_field}, Written.{fields_bytes, writing_of}, ReaderState.{WordsMet}}
+use Rattle.rio_format.proofs.{Composed.{Spellings, SpellsKind, SpellsCounted, SpellsEach, IsPart}, Tests.{named_as}, WrittenPlaces.{Stands}, WrittenWays.{in_slot, in_counted, in_none, last_place}}
 use Rattle.rio_format.proofs.WrittenLists.{AreKnown, fittings, writings, IsWrittenAnywhere, stands_at, some_is}
-use Rattle.rio_buffer.specs.ReaderState.{WordsMet}
 
 -- ---- counters
 

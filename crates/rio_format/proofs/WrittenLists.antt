@@ -1,15 +1,12 @@
 -- What is written for a list that fits spells it.
 use Rattle.std.proofs.Common.{◌≡◌, ◌==◌, inl, inr, ℕ, ◌+◌, ◌≤◌, Bool, true, false, cond, List, [], ◌∷◌, ◌++◌, length, map, Some, None, refl, sym, ap, subst, ◌∙◌, arith}
 use Rattle.std.proofs.{lemmas.Bool.{eqb-true}, lemmas.List.{length-append, length-map}, lemmas.Option.{option_and_then_some}}
-use Rattle.rio_types.specs.{declared.class.ClassDef.{ClassDef}, declared.kind.Kind.TheVariants.{Plain, Fixed, Text as Texted}}
-use Rattle.rio_types.specs.declared.kind.Primitive.{Primitive}
-use Rattle.rio_value.specs.{declared.value.Value.{Value, List as Items}, declared.value.Part.{Part}}
-use Rattle.rio_value.specs.declared.value.Value.TheOpen as layer
-use Rattle.rio_format.specs.{Fits.{Labels, Fitting, all_fit, fitting_step, fitting_of, part_fitting}, Slots.{Slot, kinded, any_pointer, link, many}}
-use Rattle.rio_format.specs.Written.{Writing, all, writing_step, writing_of}
+use Rattle.rio_format.specs.{declared.class.ClassDef.{ClassDef}, declared.kind.Kind.TheVariants.{Plain, Fixed, Text as Texted}, declared.kind.Primitive.{Primitive}}
+use Rattle.rio_format.specs.{declared.value.Value.{Value, List as Items}, declared.value.Part.{Part}, Fits.{Labels, Fitting, all_fit, fitting_step, fitting_of, part_fitting}, Slots.{Slot, kinded, any_pointer, link, many}}
+use Rattle.rio_format.specs.declared.value.Value.TheOpen as layer
+use Rattle.rio_format.specs.{Written.{Writing, all, writing_step, writing_of}, ReaderState.{WordsMet}}
 use Rattle.rio_format.proofs.{Composed.{Spellings, SpellsTimes, SpellsNumber, SpellsNumbers, IsLink}, ValueCases.{Each}, WrittenPlaces.{Stands, stands_more}}
 use Rattle.rio_format.proofs.WrittenWays.{Way, in_slot, in_counted, SpellsSlot, last_place, IsWritten}
-use Rattle.rio_buffer.specs.ReaderState.{WordsMet}
 
 -- wherever it may stand
 abbrev pub IsWrittenAnywhere : Spellings → List ClassDef → Value → Type 0

@@ -3,11 +3,9 @@ use Rattle.std.proofs.{Common.{◌≡◌, ◌&&◌, ℕ, ◌^◌, ◌<◌, ℤ, 
 use Rattle.std.proofs.lemmas.Int.{ints}
 use Rattle.std.specs.Int.{w8, w16, w32, w64, cast_signed, cast_unsigned}
 use Rattle.byteorder.specs.Endian.{big_bytes}
-use Rattle.rio_types.specs.declared.kind.Primitive.{Primitive, TheVariants.{I8, I16, I32, I64, U8, U16, U32, U64, Bool as Boolean, F32, F64}}
-use Rattle.rio_value.specs.declared.value.Value.{Int, Bits32, Bits64, Bool as Truth}
-use Rattle.rio_format.specs.{Fits.{fits_prim, fits_signed, fits_unsigned}, Prims.{width_of, value_of_prim}, Written.{truth_byte, width_in_bits}}
+use Rattle.rio_format.specs.{declared.kind.Primitive.{Primitive, TheVariants.{I8, I16, I32, I64, U8, U16, U32, U64, Bool as Boolean, F32, F64}}, declared.value.Value.{Int, Bits32, Bits64, Bool as Truth}}
+use Rattle.rio_format.specs.{Fits.{fits_prim, fits_signed, fits_unsigned}, Prims.{width_of, value_of_prim}, Written.{truth_byte, width_in_bits}, ReaderState.{WordsMet}}
 use Rattle.rio_format.proofs.Composed.{IsNumber}
-use Rattle.rio_buffer.specs.ReaderState.{WordsMet}
 
 signed_8 : (z : ℤ) → fits_signed 8 z ≡ true → cast_signed w8 (cast_unsigned w8 z) ≡ z
 signed_8 z e = grind (arith, ints)

@@ -3,16 +3,13 @@ use Rattle.std.proofs.Common.{◌≡◌, ◌&&◌, ℕ, ◌+◌, ◌^◌, ◌<�
 use Rattle.std.proofs.lemmas.Bool.Decides.{Decides-int_eq}
 use Rattle.std.specs.{Option.{option_map}, Ordering.{int_eq}, Str.{bytes_eq}, Int.{w16, cast_unsigned}}
 use Rattle.byteorder.specs.Endian.{big_bytes}
-use Rattle.rio_types.specs.{Classes.{find_in}, declared.class.ClassDef.{ClassDef}, declared.kind.Kind.TheVariants.{Plain}, Members.{can_read_all}}
-use Rattle.rio_value.specs.{declared.value.Value.{Value, Object}, declared.value.Part.{Part}}
+use Rattle.rio_format.specs.{Classes.{find_in}, declared.class.ClassDef.{ClassDef}, declared.kind.Kind.TheVariants.{Plain}, Members.{can_read_all}, declared.value.Value.{Value, Object}, declared.value.Part.{Part}}
 use Rattle.rio_format.specs.Bodies.{Form, bare, numbers, headed, form_of, Body, described, listed, arrayed, opaque, t_named, t_obj_string, built_in, by_description, headed_classes, headless_classes, row_of}
-use Rattle.rio_format.specs.{Fits.{Labels, Fitting, fields_fit, parts_fit}, Slots.{Field, bare_fields, field, kinded, many, body_fields, form_fields}}
-use Rattle.rio_format.specs.Written.{bare_bytes, number_array_bytes, body_bytes, form_bytes}
+use Rattle.rio_format.specs.{Fits.{Labels, Fitting, fields_fit, parts_fit}, Slots.{Field, bare_fields, field, kinded, many, body_fields, form_fields}, Written.{bare_bytes, number_array_bytes, body_bytes, form_bytes}}
 use Rattle.rio_format.proofs.{BuiltInLaws.{of_body, of_each}, Composed.{Spellings, SpellsBody, SpellsForm, SpellsVersion, IsBare, IsArray}}
-use Rattle.rio_format.proofs.{WrittenPlaces.{Stands, stands_more}, WrittenWays.{last_place}, WrittenLists.{AreKnown, fittings, writings, stands_at}}
-use Rattle.rio_format.proofs.{WrittenFields.{bases_written}, WrittenBodies.{bare_written, array_written}}
+use Rattle.rio_format.proofs.{WrittenPlaces.{Stands, stands_more}, WrittenWays.{last_place}, WrittenLists.{AreKnown, fittings, writings, stands_at}, WrittenFields.{bases_written}, WrittenBodies.{bare_written, array_written}}
 use Rattle.rio_format.proofs.WrittenArrays.{listed_written, arrayed_written}
-use Rattle.rio_buffer.specs.ReaderState.{WordsMet}
+use Rattle.rio_format.specs.ReaderState.{WordsMet}
 
 -- ---- the bodies of classes
 

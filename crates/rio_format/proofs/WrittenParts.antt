@@ -1,9 +1,7 @@
 -- Numbers, texts, arrays, pointers and the bases of all objects that are written fit what describes them.
 use Rattle.std.proofs.{Common.{◌≡◌, ℕ, ℤ, pos, Bool, true, List, [], ◌∷◌, ◌++◌, length, map, codes, Some, refl, ap}, lemmas.Bool.{eq-eqb}}
-use Rattle.rio_types.specs.{declared.class.ClassDef.{ClassDef}, declared.kind.Kind.TheVariants.{Plain, Fixed, Text as Texted, Inline}}
-use Rattle.rio_types.specs.declared.kind.Primitive.{Primitive, TheVariants.{I32, U32, Bool as Boolean}}
-use Rattle.rio_value.specs.{declared.value.Part.{Part}, declared.value.Value.{Value, Int, Bool as Truth, Text, Object, Pointed}}
-use Rattle.rio_format.specs.Fits.{Labels, Fitting, all_fit, fits_prim, fits_signed, fitting_of, fitting_step, may_point}
+use Rattle.rio_format.specs.{declared.class.ClassDef.{ClassDef}, declared.kind.Kind.TheVariants.{Plain, Fixed, Text as Texted, Inline}, declared.kind.Primitive.{Primitive, TheVariants.{I32, U32, Bool as Boolean}}}
+use Rattle.rio_format.specs.{declared.value.Part.{Part}, declared.value.Value.{Value, Int, Bool as Truth, Text, Object, Pointed}, Fits.{Labels, Fitting, all_fit, fits_prim, fits_signed, fitting_of, fitting_step, may_point}}
 use Rattle.rio_format.specs.{Slots.{Slot, kinded, based, link, any_pointer}, WrittenList.{array_object, index_list, linked, plain_object, titled_object}}
 use Rattle.rio_format.proofs.{ValueCases.{fold_Bool, fold_Int, fold_Text, fold_List, fold_Pointed}, WrittenValues.{object_fitting, fit_object}}
 

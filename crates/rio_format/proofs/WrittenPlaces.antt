@@ -3,8 +3,7 @@ use Rattle.std.proofs.Common.{◌≡◌, ℕ, zero, suc, ◌<◌, ◌≤◌, ℤ
 use Rattle.std.proofs.{lemmas.Bool.{ne_eqb, eq-eqb, lt-ltb}, lemmas.List.{length-append}, lemmas.Slice.Eq.{bytes_eq-Decides}}
 use Rattle.std.specs.{List.{find, list_any, position_or_len}, Map.{lookup}, Str.{bytes_eq}}
 use Rattle.indexmap.specs.{IndexMap.{insert_entry}, IndexSet.{insert_key}}
-use Rattle.rio_format.specs.Fits.{Labels}
-use Rattle.rio_buffer.specs.ReaderState.{WordsMet, no_words, with_label, with_name}
+use Rattle.rio_format.specs.{Fits.{Labels}, ReaderState.{WordsMet, no_words, with_label, with_name}}
 
 -- ---- places in order
 

@@ -3,17 +3,14 @@ use Rattle.std.proofs.Common.{◌≡◌, ◌&&◌, ◌||◌, ◌==◌, inl, inr,
 use Rattle.std.proofs.{lemmas.Bool.{and_parts, eqb-true, not-true}, lemmas.List.{length-append}}
 use Rattle.std.specs.{Prelude.{slice_get}, List.{find, list_any}, Str.{bytes_eq}}
 use Rattle.byteorder.specs.Endian.{big_bytes}
-use Rattle.rio_types.specs.{declared.class.ClassDef.{ClassDef}, declared.kind.Kind.TheVariants.{Inline, Pointer}}
-use Rattle.rio_value.specs.declared.value.Value.{Value, Pointed, out-Value, map-Value, TheOpen.{Value-F}, TheFolds.{fold_out-Value, fold-Part}}
-use Rattle.rio_value.specs.declared.value.Part.{Part}
-use Rattle.rio_value.specs.declared.value.Value.TheOpen as layer
+use Rattle.rio_format.specs.{declared.class.ClassDef.{ClassDef}, declared.kind.Kind.TheVariants.{Inline, Pointer}}
+use Rattle.rio_format.specs.{declared.value.Value.{Value, Pointed, out-Value, map-Value, TheOpen.{Value-F}, TheFolds.{fold_out-Value, fold-Part}}, declared.value.Part.{Part}}
+use Rattle.rio_format.specs.declared.value.Value.TheOpen as layer
 use Rattle.rio_format.specs.Fits.{Labels, Fitting, pass, may_point, back_fits, pointed_fits, fitting_step, fitting_of}
-use Rattle.rio_format.specs.{Slots.{kinded, any_pointer, can_be_word}, Written.{Writing, labelled, counted, both, writing_step, writing_of}}
+use Rattle.rio_format.specs.{Slots.{kinded, any_pointer, can_be_word}, Written.{Writing, labelled, counted, both, writing_step, writing_of}, ReaderState.{WordsMet, with_label}, Writer.{class_by, class_bytes}}
 use Rattle.rio_num.specs.Meanings.{HasNoZero}
-use Rattle.rio_format.proofs.{Composed.{Spellings, SpellsClass, SpellsPointer, IsNew}, Tests.{named_as}}
-use Rattle.rio_format.proofs.WrittenPlaces.{Stands, stands_more, stands_name, stands_label, named_before}
+use Rattle.rio_format.proofs.{Composed.{Spellings, SpellsClass, SpellsPointer, IsNew}, Tests.{named_as}, WrittenPlaces.{Stands, stands_more, stands_name, stands_label, named_before}}
 use Rattle.rio_format.proofs.{WrittenWays.{Way, in_slot, fit_slot, SpellsWay, last_place, IsWrittenAt, IsWritten}, WrittenLists.{IsWrittenAnywhere, stands_at}}
-use Rattle.rio_buffer.specs.{ReaderState.{WordsMet, with_label}, Writer.{class_by, class_bytes}}
 
 -- ---- the class of an object
 

@@ -3,22 +3,17 @@ use Rattle.std.proofs.{Common.{◌≡◌, ◌&&◌, ℕ, zero, suc, ◌+◌, ◌
 use Rattle.std.proofs.lemmas.Slice.Eq.{bytes_eq-Decides}
 use Rattle.std.specs.{Prelude.{IsTrue}, Int.{w16, cast_unsigned}, List.{list_all}, Ordering.{int_eq}, Str.{bytes_eq}}
 use Rattle.rio_num.proofs.Cases.{some_of}
-use Rattle.rio_types.specs.{declared.class.ClassDef.{ClassDef}, declared.kind.Kind.TheVariants.{Inline}}
-use Rattle.rio_value.specs.Depth.{greatest, depth_step, depth_of}
-use Rattle.rio_value.specs.declared.value.Value.{Value, Int, Bits32, Bits64, Bool as Truth, Text, List as Items, Object, Pointed, Null, Back, Opaque, TheFolds.{fold-Part, fold_out-Part}}
-use Rattle.rio_value.specs.declared.value.Part.{Part}
-use Rattle.rio_value.specs.declared.value.Value.TheOpen as layer
-use Rattle.rio_value.proofs.DepthLaws.{part_depth}
+use Rattle.rio_format.specs.{declared.class.ClassDef.{ClassDef}, declared.kind.Kind.TheVariants.{Inline}, Depth.{greatest, depth_step, depth_of}}
+use Rattle.rio_format.specs.{declared.value.Value.{Value, Int, Bits32, Bits64, Bool as Truth, Text, List as Items, Object, Pointed, Null, Back, Opaque, TheFolds.{fold-Part, fold_out-Part}}, declared.value.Part.{Part}}
+use Rattle.rio_format.specs.declared.value.Value.TheOpen as layer
+use Rattle.rio_format.proofs.{DepthLaws.{part_depth}, Composed.{Spellings, Composes}, ComposedSpells.{object_in}, Tests.{named_as}}
 use Rattle.rio_format.specs.{Bodies.{form_of}, Fits.{Labels, Fitting, part_fitting, parts_fit, fitting_step, fitting_of}}
-use Rattle.rio_format.specs.{Laws.{versions_step, has_versions, WrittenIsSpelled}, Objects.{depth_limit, SpellsObject}, Slots.{kinded, based, fields_of}}
-use Rattle.rio_format.specs.Written.{Writing, form_bytes, writing_step, writing_of}
-use Rattle.rio_format.proofs.{Composed.{Spellings, Composes}, ComposedSpells.{object_in}, Tests.{named_as}}
+use Rattle.rio_format.specs.{Laws.{versions_step, has_versions, WrittenIsSpelled}, Objects.{depth_limit, SpellsObject}, Slots.{kinded, based, fields_of}, Written.{Writing, form_bytes, writing_step, writing_of}}
 use Rattle.rio_format.proofs.ValueCases.{Each, Steps, by_cases, fold_Int, fold_Bits32, fold_Bits64, fold_Bool, fold_Text, fold_List, fold_Object, fold_Pointed, fold_Null, fold_Back, fold_Opaque}
 use Rattle.rio_format.proofs.{WrittenNumbers.{version_bytes}, WrittenPlaces.{Stands, stands_none}}
 use Rattle.rio_format.proofs.WrittenWays.{Way, in_slot, last_place, IsWrittenAt, IsWritten, int_written, bits32_written, bits64_written, truth_written, text_written, null_written, back_written}
-use Rattle.rio_format.proofs.{WrittenLists.{AreKnown, fittings, writings, IsWrittenAnywhere, list_written}, WrittenObjects.{formed_written}}
-use Rattle.rio_format.proofs.WrittenPointers.{pointed_written, inline_class}
-use Rattle.rio_buffer.specs.ReaderState.{WordsMet, no_words}
+use Rattle.rio_format.proofs.{WrittenLists.{AreKnown, fittings, writings, IsWrittenAnywhere, list_written}, WrittenObjects.{formed_written}, WrittenPointers.{pointed_written, inline_class}}
+use Rattle.rio_format.specs.ReaderState.{WordsMet, no_words}
 
 -- ---- objects
 

@@ -5,16 +5,12 @@ use Rattle.std.specs.Prelude.{bit_and, not}
 use Rattle.byteorder.specs.Endian.{big_bytes}
 use Rattle.rio_num.specs.Text.{SpellsText, text_bytes}
 use Rattle.rio_num.proofs.{ReadLaws.{text_written as spelled_text}, TextLengths.{text_within}}
-use Rattle.rio_types.specs.{declared.class.ClassDef.{ClassDef}, declared.kind.Kind.TheVariants.{Plain, Counter, Fixed, Counted, Text as Texted, Pointer, Other}}
-use Rattle.rio_types.specs.declared.kind.Primitive.{Primitive, TheVariants.{Bool as Boolean, F32, F64}}
-use Rattle.rio_value.specs.declared.value.Value.{Value, Int, Bits32, Bits64, Bool as Truth, Text, List as Items, Null, Back}
-use Rattle.rio_value.specs.declared.value.Value.TheOpen as layer
-use Rattle.rio_format.specs.{Fits.{Labels, Fitting, pass, fitting_step, back_fits}, Objects.{has_pid}}
-use Rattle.rio_format.specs.{Slots.{Slot, kinded, based, flags, any_pointer, link, many}, Written.{Writing, writing_step}}
-use Rattle.rio_format.proofs.Composed.{Spelling, Spellings, SpellsKind, SpellsCounted, SpellsTimes, SpellsPointer, IsLink, IsBack}
-use Rattle.rio_format.proofs.WrittenPlaces.{Stands, stands_more, below_at, position_of}
+use Rattle.rio_format.specs.{declared.class.ClassDef.{ClassDef}, declared.kind.Kind.TheVariants.{Plain, Counter, Fixed, Counted, Text as Texted, Pointer, Other}}
+use Rattle.rio_format.specs.{declared.kind.Primitive.{Primitive, TheVariants.{Bool as Boolean, F32, F64}}, declared.value.Value.{Value, Int, Bits32, Bits64, Bool as Truth, Text, List as Items, Null, Back}}
+use Rattle.rio_format.specs.declared.value.Value.TheOpen as layer
+use Rattle.rio_format.specs.{Fits.{Labels, Fitting, pass, fitting_step, back_fits}, Objects.{has_pid}, Slots.{Slot, kinded, based, flags, any_pointer, link, many}, Written.{Writing, writing_step}, ReaderState.{WordsMet}}
+use Rattle.rio_format.proofs.{Composed.{Spelling, Spellings, SpellsKind, SpellsCounted, SpellsTimes, SpellsPointer, IsLink, IsBack}, WrittenPlaces.{Stands, stands_more, below_at, position_of}}
 use Rattle.rio_format.proofs.WrittenNumbers.{int_number, counter_number, flags_bytes, bits32_number, bits64_number, truth_number}
-use Rattle.rio_buffer.specs.ReaderState.{WordsMet}
 
 -- A list behind a counter fits as a list of so many values. Without a counter nothing fits.
 pub data Way : Type 0 where

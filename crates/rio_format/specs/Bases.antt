@@ -1,7 +1,6 @@
 -- Which classes have which among their bases.
 use Rattle.std.specs.{Prelude.{◌≡◌, ℕ, suc, List, ◌++◌, Bool, true, ◌||◌, ◌&&◌, not}, List.{All, AllWithin, Contains, list_all, list_any}, Str.{bytes_eq}}
-use Rattle.rio_types.specs.{declared.class.Base.{Base}, declared.class.ClassDef.{ClassDef}}
-use Rattle.rio_format.specs.{Slots.{body_bases, has_base, headed_body}, Visits.{is_visited}}
+use Rattle.rio_format.specs.{declared.class.Base.{Base}, declared.class.ClassDef.{ClassDef}, Slots.{body_bases, has_base, headed_body}, Visits.{is_visited}}
 
 -- one of the bases is the target
 abbrev pub are_targets : List ℕ → List Base → Bool

@@ -1,14 +1,11 @@
 -- What stands in an object of a class: the classes with a body of their own, and the parts of a class that is described.
-pub use Rattle.rio_format.specs.declared.form.Form.{Form}
-pub use Rattle.rio_format.specs.declared.form.Form.TheVariants.{Bare as bare, Numbers as numbers, Headed as headed}
-pub use Rattle.rio_format.specs.declared.built_in.BuiltIn.{BuiltIn}
+pub use Rattle.rio_format.specs.{declared.form.Form.{Form, TheVariants.{Bare as bare, Numbers as numbers, Headed as headed}}, declared.built_in.BuiltIn.{BuiltIn}}
 pub use Rattle.rio_format.specs.declared.built_in.BuiltIn.TheVariants.{Object, Named, ObjString, Listed, Arrayed, Chars, Shorts, Ints, Longs, Floats, Doubles}
 use Rattle.std.specs.{Prelude.{ℕ, ℤ, pos, List, [], ◌∷◌, ◌++◌, map, codes, Option, Some, None, unwrap_or, if◌then◌else◌}, Str.{bytes_eq}, Map.{lookup}}
 use Rattle.std.specs.{Option.{option_map_or}, Ordering.{int_eq}}
-use Rattle.rio_types.specs.{Classes.{find_in, find_sum_in}, Members.{is_counter, can_read_all}, declared.class.Base.{Base}, declared.class.ClassDef.{ClassDef}}
-use Rattle.rio_types.specs.{declared.class.Member.{Member}, declared.kind.Kind.{Kind, TheVariants.{Text, Inline}}}
-use Rattle.rio_types.specs.declared.kind.Primitive.TheVariants.{I8, I16, I32, I64, F32, F64}
-use Rattle.rio_value.specs.{Accessors.{number_in}, declared.value.Value.{Value, out-Value}, declared.value.Part.{Part}}
+use Rattle.rio_format.specs.{Classes.{find_in, find_sum_in}, Members.{is_counter, can_read_all}, declared.class.Base.{Base}, declared.class.ClassDef.{ClassDef}}
+use Rattle.rio_format.specs.{declared.class.Member.{Member}, declared.kind.Kind.{Kind, TheVariants.{Text, Inline}}, declared.kind.Primitive.TheVariants.{I8, I16, I32, I64, F32, F64}}
+use Rattle.rio_format.specs.{Accessors.{number_in}, declared.value.Value.{Value, out-Value}, declared.value.Part.{Part}}
 
 abbrev pub part : List ℕ → Value → Part
 part name value = record { name = name; value = value }

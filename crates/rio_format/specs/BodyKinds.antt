@@ -1,6 +1,5 @@
 -- The body that each kind of the code's bodies is.
-use Rattle.rio_format.specs.Bodies.{Body, described, listed, arrayed, opaque, t_named, t_obj_string}
-use Rattle.rio_format.specs.declared.body.BodyKind.{BodyKind, TheVariants.{Described, Named, ObjString, Listed, Arrayed, Opaque}}
+use Rattle.rio_format.specs.{Bodies.{Body, described, listed, arrayed, opaque, t_named, t_obj_string}, declared.body.BodyKind.{BodyKind, TheVariants.{Described, Named, ObjString, Listed, Arrayed, Opaque}}}
 
 abbrev pub body_of_kind : BodyKind → Body
 body_of_kind (Described class) = described class.now

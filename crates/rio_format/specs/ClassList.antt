@@ -2,11 +2,9 @@
 use Rattle.std.specs.{Prelude.{ℕ, pos, List, [], map, codes, slice_get, Option, option_map, option_and_then, Result, Ok}, List.{filter_map}}
 use Rattle.std.specs.Option.{option_map_or}
 use Rattle.rio_num.specs.Reading.{◌>>=◌}
-use Rattle.rio_types.specs.declared.class.ClassDef.{ClassDef}
-use Rattle.rio_value.specs.{declared.value.Part.{Part}, declared.value.Value.{Value}, Accessors.{part_of, parts_of}}
+use Rattle.rio_format.specs.{declared.class.ClassDef.{ClassDef}, declared.value.Part.{Part}, declared.value.Value.{Value}, Accessors.{part_of, parts_of}}
 use Rattle.rio_format.specs.{Descriptions.{description_classes}, Elements.{Element, element_of, bases_of, members_of}, Objects.{value_at}}
-use Rattle.rio_format.specs.ValueParts.{items_in, list_of, text_in_part, signed_of, unsigned_of, parts_behind, base_parts}
-use Rattle.rio_buffer.specs.declared.fault.ObjFault.{ObjFault}
+use Rattle.rio_format.specs.{ValueParts.{items_in, list_of, text_in_part, signed_of, unsigned_of, parts_behind, base_parts}, declared.fault.ObjFault.{ObjFault}}
 
 -- The items behind the pointer to a class's elements. There are none where it isn't a pointer to a TObjArray that begins there.
 abbrev pub element_items : List Part → List Value

@@ -1,9 +1,8 @@
 -- The classes of the objects that describe classes. A class list is a TList that points to them, so it is read as any object
 -- by these descriptions, each in the one version that is known.
 use Rattle.std.specs.Prelude.{ℕ, ℤ, pos, List, [], ◌∷◌, codes, Bool, is_some}
-use Rattle.rio_types.specs.{Classes.{find_in}, declared.class.Base.{Base}, declared.class.ClassDef.{ClassDef}, declared.class.Member.{Member}}
-use Rattle.rio_types.specs.{declared.kind.Kind.TheVariants.{Plain, Fixed, Text, Pointer}, declared.kind.Primitive.TheVariants.{I32, U32}}
-use Rattle.rio_format.specs.Bodies.{member}
+use Rattle.rio_format.specs.{Classes.{find_in}, declared.class.Base.{Base}, declared.class.ClassDef.{ClassDef}, declared.class.Member.{Member}}
+use Rattle.rio_format.specs.{declared.kind.Kind.TheVariants.{Plain, Fixed, Text, Pointer}, declared.kind.Primitive.TheVariants.{I32, U32}, Bodies.{member}}
 
 -- A class with one base. The sum is that of its declaration, "class NAME VERSION : BASE { NAME: KIND, NAME: KIND }": 0 at
 -- first, and behind each byte three times the sum before it, plus the byte, modulo 2^32. A header of version 0 picks a class by

@@ -1,10 +1,9 @@
 -- The elements of a class in a class list: its bases, and its members with their kinds.
 use Rattle.std.specs.Prelude.{ℕ, ℤ, pos, negsuc, ◌-ℤ◌, ◌-◌, List, [], ◌∷◌, length, take, drop, codes, Bool, Option, Some, None, is_some, unwrap_or, option_map, option_and_then, if◌then◌else◌}
 use Rattle.std.specs.{List.{filter_map, list_any}, Map.{lookup}, Option.{option_or}, Ordering.{int_eq}, Str.{bytes_eq}}
-use Rattle.rio_types.specs.{declared.class.Base.{Base}, declared.class.Member.{Member}}
-use Rattle.rio_types.specs.declared.kind.Kind.{Kind, TheVariants.{Plain, Counter, Fixed, Counted, Text, Inline, Pointer, Other}}
-use Rattle.rio_types.specs.declared.kind.Primitive.{Primitive, TheVariants.{I8, I16, I32, I64, U8, U16, U32, U64, Bool as Boolean, F32, F64}}
-use Rattle.rio_value.specs.{declared.value.Part.{Part}, declared.value.Value.{Value, out-Value, TheOpen.{Value-F, Object}}, Accessors.{pointed_object, part_of}}
+use Rattle.rio_format.specs.{declared.class.Base.{Base}, declared.class.Member.{Member}, declared.kind.Kind.{Kind, TheVariants.{Plain, Counter, Fixed, Counted, Text, Inline, Pointer, Other}}}
+use Rattle.rio_format.specs.declared.kind.Primitive.{Primitive, TheVariants.{I8, I16, I32, I64, U8, U16, U32, U64, Bool as Boolean, F32, F64}}
+use Rattle.rio_format.specs.{declared.value.Part.{Part}, declared.value.Value.{Value, out-Value, TheOpen.{Value-F, Object}}, Accessors.{pointed_object, part_of}}
 use Rattle.rio_format.specs.{Descriptions.{is_element}, ValueParts.{base_parts, text_in, signed_in, text_in_part, signed_of}}
 
 -- ---- what an element says

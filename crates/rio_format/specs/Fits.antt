@@ -1,13 +1,11 @@
 -- Which values fit a class. Labels are counted in one walk through the value.
 use Rattle.std.specs.Prelude.{ℕ, ◌^◌, ℤ, pos, List, [], ◌∷◌, ◌++◌, length, slice_get, bit_and, Bool, true, false, ◌==◌, ◌&&◌, nat_lt, Option, Some, None, is_some, IsTrue, option_and_then, if◌then◌else◌}
 use Rattle.std.specs.{Map.{lookup}, Str.{bytes_eq}, Ordering.{int_eq}}
-use Rattle.rio_types.specs.declared.class.ClassDef.{ClassDef}
-use Rattle.rio_types.specs.declared.kind.Kind.TheVariants.{Plain, Counter, Fixed, Counted, Text as Texted, Inline, Pointer, Other}
-use Rattle.rio_types.specs.declared.kind.Primitive.{Primitive, TheVariants.{I8, I16, I32, I64, U8, U16, U32, U64, Bool as Boolean, F32, F64}}
-pub use Rattle.rio_value.specs.Integers.{fits_signed, fits_unsigned}
-use Rattle.rio_value.specs.{declared.value.Value.{Value, TheOpen.{Value-F, Int, Bits32, Bits64, Bool as Truth, Text, List as Items, Object, Pointed, Null, Back, Opaque}, TheFolds.{fold-Value}}, declared.value.Part.{Part}}
-use Rattle.rio_format.specs.Bodies.{Counters}
-use Rattle.rio_format.specs.Slots.{Slot, kinded, based, flags, any_pointer, link, many, Field, fields_of, derives_from, can_be_word, can_be_put}
+use Rattle.rio_format.specs.{declared.class.ClassDef.{ClassDef}, declared.kind.Kind.TheVariants.{Plain, Counter, Fixed, Counted, Text as Texted, Inline, Pointer, Other}}
+use Rattle.rio_format.specs.declared.kind.Primitive.{Primitive, TheVariants.{I8, I16, I32, I64, U8, U16, U32, U64, Bool as Boolean, F32, F64}}
+pub use Rattle.rio_format.specs.Integers.{fits_signed, fits_unsigned}
+use Rattle.rio_format.specs.{declared.value.Value.{Value, TheOpen.{Value-F, Int, Bits32, Bits64, Bool as Truth, Text, List as Items, Object, Pointed, Null, Back, Opaque}, TheFolds.{fold-Value}}, declared.value.Part.{Part}}
+use Rattle.rio_format.specs.{Bodies.{Counters}, Slots.{Slot, kinded, based, flags, any_pointer, link, many, Field, fields_of, derives_from, can_be_word, can_be_put}}
 
 -- the classes and versions of the objects that have a label, by label
 abbrev pub Labels : Type 0

@@ -1,9 +1,8 @@
 -- Reading of objects with more classes.
 use Rattle.std.specs.{Prelude.{◌≡◌, ℕ, ℤ, Bool, true, false, List, [], ◌∷◌, ◌++◌, Some, Ok}, List.{list_all}}
-use Rattle.rio_types.specs.{Classes.{find_in, find_sum_in}, declared.class.ClassDef.{ClassDef}}
-use Rattle.rio_value.specs.declared.value.Value.{Value, TheOpen.{Value-F, Int, Bits32, Bits64, Bool as Truth, Text, List as Items, Object, Pointed, Null, Back, Opaque}, TheFolds.{fold-Value}}
-use Rattle.rio_format.specs.{Fits.{fits}, Objects.{first_at, SpellsObject}}
-use Rattle.rio_buffer.specs.ReaderState.{ReaderState}
+use Rattle.rio_format.specs.{Classes.{find_in, find_sum_in}, declared.class.ClassDef.{ClassDef}}
+use Rattle.rio_format.specs.declared.value.Value.{Value, TheOpen.{Value-F, Int, Bits32, Bits64, Bool as Truth, Text, List as Items, Object, Pointed, Null, Back, Opaque}, TheFolds.{fold-Value}}
+use Rattle.rio_format.specs.{Fits.{fits}, Objects.{first_at, SpellsObject}, ReaderState.{ReaderState}}
 
 -- one layer of a value: nothing in it is opaque
 abbrev pub all_read_step : Value-F Bool Bool → Bool

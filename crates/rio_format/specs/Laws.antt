@@ -1,11 +1,9 @@
 -- How reading, spelling and writing of objects belong together.
 use Rattle.std.specs.{Prelude.{◌≡◌, ◌⊎◌, ◌≤◌, ℕ, ◌+◌, ◌-◌, ◌^◌, ℤ, pos, int_le, Bool, true, ◌&&◌, List, ◌++◌, length, Ok, Err, IsTrue}, List.{list_all}}
 use Rattle.rio_num.specs.At.{AreBytes}
-use Rattle.rio_types.specs.declared.class.ClassDef.{ClassDef}
-use Rattle.rio_value.specs.Depth.{depth_of}
-use Rattle.rio_value.specs.declared.value.Value.{Value, TheOpen.{Value-F, Int, Bits32, Bits64, Bool as Truth, Text, List as Items, Object, Pointed, Null, Back, Opaque}, TheFolds.{fold-Value}}
-use Rattle.rio_format.specs.{Fits.{Fits}, Objects.{first_at, value_at, depth_limit, SpellsObject, BreaksObject}, Slots.{has_base}, Written.{written_form}}
-use Rattle.rio_buffer.specs.{ReaderState.{ReaderState}, declared.fault.ObjFault.{ObjFault}}
+use Rattle.rio_format.specs.{declared.class.ClassDef.{ClassDef}, Depth.{depth_of}}
+use Rattle.rio_format.specs.declared.value.Value.{Value, TheOpen.{Value-F, Int, Bits32, Bits64, Bool as Truth, Text, List as Items, Object, Pointed, Null, Back, Opaque}, TheFolds.{fold-Value}}
+use Rattle.rio_format.specs.{Fits.{Fits}, Objects.{first_at, value_at, depth_limit, SpellsObject, BreaksObject}, Slots.{has_base}, Written.{written_form}, ReaderState.{ReaderState}, declared.fault.ObjFault.{ObjFault}}
 
 -- what is read is spelled by the bytes before the place where reading stands
 abbrev pub ReadIsSpelled : Type 0

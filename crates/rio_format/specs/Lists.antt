@@ -1,7 +1,6 @@
 -- What class lists stand for.
 use Rattle.std.specs.Prelude.{List, [], ◌∷◌, ◌++◌, Option, Some, None}
-use Rattle.rio_types.specs.{Classes.{newer_of}, declared.class.ClassDef.{ClassDef}}
-use Rattle.rio_format.specs.declared.lists.ClassLists.{ClassLists, TheVariants.{One, Two, With}}
+use Rattle.rio_format.specs.{Classes.{newer_of}, declared.class.ClassDef.{ClassDef}, declared.lists.ClassLists.{ClassLists, TheVariants.{One, Two, With}}}
 
 -- the classes in order
 abbrev pub listed : ClassLists → List ClassDef

@@ -1,14 +1,11 @@
 -- Objects in bytes. Each rule stands here once; the meanings of descriptions say how it is read, spelled and broken.
 use Rattle.std.specs.Prelude.{◌==◌, not, ℕ, zero, suc, ◌+◌, ◌-◌, ◌*◌, ◌^◌, ℤ, pos, negsuc, List, [], ◌∷◌, ◌++◌, length, codes, Result, Ok, Err, nat_lt, nat_le, bit_and, Bool}
-use Rattle.rio_types.specs.{declared.class.Base.{Base}, declared.class.ClassDef.{ClassDef}, declared.class.Member.{Member}}
-use Rattle.rio_types.specs.declared.kind.Kind.{Kind, TheVariants.{Plain, Counter, Fixed, Counted, Text as Texted, Inline, Pointer, Other}}
-use Rattle.rio_types.specs.declared.kind.Primitive.{Primitive, TheVariants.{I32}}
-use Rattle.rio_value.specs.declared.value.Value.{Value, Int, Text, List as Items, Object, Pointed, Null as Nothing, Back as Earlier, Opaque}
-use Rattle.rio_value.specs.declared.value.Part.{Part}
+use Rattle.rio_format.specs.{declared.class.Base.{Base}, declared.class.ClassDef.{ClassDef}, declared.class.Member.{Member}}
+use Rattle.rio_format.specs.{declared.kind.Kind.{Kind, TheVariants.{Plain, Counter, Fixed, Counted, Text as Texted, Inline, Pointer, Other}}, declared.kind.Primitive.{Primitive, TheVariants.{I32}}}
+use Rattle.rio_format.specs.{declared.value.Value.{Value, Int, Text, List as Items, Object, Pointed, Null as Nothing, Back as Earlier, Opaque}, declared.value.Part.{Part}}
 use Rattle.rio_num.specs.{Layout.{done, broken, number, text, any, here, reaches, must, each, times, ◌>>=◌, when◌then◌else◌}, Meanings.{read, Spells, Breaks}}
-use Rattle.rio_buffer.specs.{ReaderState.{WordsMet, no_words, standing}, Frames.{Step, ObjLayout, finish, header, pointer_word}, declared.words.Header.{Header}}
-use Rattle.rio_buffer.specs.declared.words.PointerWord.{PointerWord, TheVariants.{Null, New, Back}}
-use Rattle.rio_buffer.specs.declared.fault.ObjFault.{ObjFault, TheVariants.{Short, BadCount, NoCount, BadFlag, CountMismatch, TooDeep}}
+use Rattle.rio_format.specs.{ReaderState.{WordsMet, no_words, standing}, Frames.{Step, ObjLayout, finish, header, pointer_word}, declared.words.Header.{Header}}
+use Rattle.rio_format.specs.{declared.words.PointerWord.{PointerWord, TheVariants.{Null, New, Back}}, declared.fault.ObjFault.{ObjFault, TheVariants.{Short, BadCount, NoCount, BadFlag, CountMismatch, TooDeep}}}
 use Rattle.rio_format.specs.Bodies.{part, Form, bare, numbers as numbered, headed as with_header, form_of, Body, described, listed, arrayed, opaque, body_of, Counters, counters_with, count_by}
 use Rattle.rio_format.specs.Prims.{width_of, value_of_prim}
 

@@ -1,7 +1,6 @@
 -- Single values in bytes.
 use Rattle.std.specs.{Prelude.{ℕ, pos, ◌==◌, not}, Int.{w8, w16, w32, w64, cast_signed}}
-use Rattle.rio_types.specs.declared.kind.Primitive.{Primitive, TheVariants.{I8, I16, I32, I64, U8, U16, U32, U64, Bool as Boolean, F32, F64}}
-use Rattle.rio_value.specs.declared.value.Value.{Value, Int, Bits32, Bits64, Bool as Truth}
+use Rattle.rio_format.specs.{declared.kind.Primitive.{Primitive, TheVariants.{I8, I16, I32, I64, U8, U16, U32, U64, Bool as Boolean, F32, F64}}, declared.value.Value.{Value, Int, Bits32, Bits64, Bool as Truth}}
 
 -- how many bytes a value of the kind has
 abbrev pub width_of : Primitive → ℕ

@@ -1,9 +1,8 @@
 -- Slots and fields as pairs of numbers and lists, and back, which a type needs that contracts see as a definition's type.
 use Rattle.std.specs.{Prelude.{◌≡◌, ℕ, zero, suc, ℤ, pos, List, [], ◌==◌, if◌then◌else◌, refl}, Coded.{Coded, code_by, coded×, coded_ℕ, coded_ℤ, coded_list}}
 use Rattle.std.proofs.Common.{ap}
-use Rattle.rio_types.specs.declared.kind.Kind.{Kind, TheVariants.{Plain, Counter, Fixed, Counted, Text, Inline, Pointer, Other}}
-use Rattle.rio_types.specs.declared.kind.Primitive.{Primitive, TheVariants.{I8, I16, I32, I64, U8, U16, U32, U64, Bool as Boolean, F32, F64}}
-use Rattle.rio_format.specs.Slots.{Slot, kinded, based, flags, any_pointer, link, many, Field}
+use Rattle.rio_format.specs.declared.kind.Kind.{Kind, TheVariants.{Plain, Counter, Fixed, Counted, Text, Inline, Pointer, Other}}
+use Rattle.rio_format.specs.{declared.kind.Primitive.{Primitive, TheVariants.{I8, I16, I32, I64, U8, U16, U32, U64, Bool as Boolean, F32, F64}}, Slots.{Slot, kinded, based, flags, any_pointer, link, many, Field}}
 
 abbrev prim_number : Primitive → ℕ
 prim_number I8 = 0

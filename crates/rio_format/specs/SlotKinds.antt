@@ -1,5 +1,5 @@
 -- The slot that each kind of the code's slots is.
-use Rattle.rio_types.specs.declared.kind.Kind.TheVariants.{Plain as PlainKind, Counter as CounterKind, Fixed as FixedKind, Counted as CountedKind, Text as TextKind, Inline as InlineKind, Pointer as PointerKind, Other as OtherKind}
+use Rattle.rio_format.specs.declared.kind.Kind.TheVariants.{Plain as PlainKind, Counter as CounterKind, Fixed as FixedKind, Counted as CountedKind, Text as TextKind, Inline as InlineKind, Pointer as PointerKind, Other as OtherKind}
 use Rattle.rio_format.specs.Slots.{Slot, kinded, based, flags, any_pointer, link, many}
 use Rattle.rio_format.specs.declared.slot.SlotKind.{SlotKind, TheVariants.{Plain, Counter, Fixed, Counted, Text, Inline, Pointer, Other, Based, Flags, AnyPointer, Link, Numbers, Pointers, Links}}
 

@@ -1,8 +1,8 @@
 -- What may stand at a place within a value.
 use Rattle.std.specs.Prelude.{ℕ, zero, suc, ◌+◌, ℤ, pos, List, [], ◌∷◌, ◌++◌, length, map, codes, Bool, true, false, ◌&&◌, ◌||◌, not, ◌==◌, Option, Some, None, if◌then◌else◌, is_some}
 use Rattle.std.specs.{Str.{bytes_eq}, List.{list_any}, Option.{option_map}, Ordering.{int_eq}}
-use Rattle.rio_types.specs.{Classes.{find_in, newest_in}, declared.class.Base.{Base}, declared.class.ClassDef.{ClassDef}, declared.class.Member.{Member}}
-use Rattle.rio_types.specs.{declared.kind.Kind.{Kind, TheVariants.{Plain, Text}}, declared.kind.Primitive.{Primitive, TheVariants.{I32, U32}}}
+use Rattle.rio_format.specs.{Classes.{find_in, newest_in}, declared.class.Base.{Base}, declared.class.ClassDef.{ClassDef}, declared.class.Member.{Member}}
+use Rattle.rio_format.specs.{declared.kind.Kind.{Kind, TheVariants.{Plain, Text}}, declared.kind.Primitive.{Primitive, TheVariants.{I32, U32}}}
 use Rattle.rio_format.specs.Bodies.{Form, bare, numbers, headed, form_of, headed_class, Body, described, listed, arrayed, opaque, built_in, t_object_base}
 
 pub data Slot : Type 0 where

@@ -1,9 +1,7 @@
 -- The classes of trees, and the list of classes that is written with the declared ones.
 use Rattle.std.specs.Prelude.{ℕ, pos, List, [], ◌∷◌, ◌++◌, codes}
-use Rattle.rio_types.specs.{declared.class.Base.{Base}, declared.class.ClassDef.{ClassDef}, declared.class.Member.{Member}}
-use Rattle.rio_types.specs.declared.kind.Kind.TheVariants.{Plain, Counter, Counted, Text, Inline, Pointer}
-use Rattle.rio_types.specs.declared.kind.Primitive.{Primitive, TheVariants.{I32, I64, Bool}}
-use Rattle.rio_format.specs.{Bodies.{member}, Descriptions.{describing, named_base}}
+use Rattle.rio_format.specs.{declared.class.Base.{Base}, declared.class.ClassDef.{ClassDef}, declared.class.Member.{Member}, declared.kind.Kind.TheVariants.{Plain, Counter, Counted, Text, Inline, Pointer}}
+use Rattle.rio_format.specs.{declared.kind.Primitive.{Primitive, TheVariants.{I32, I64, Bool}}, Bodies.{member}, Descriptions.{describing, named_base}}
 
 -- ---- members
 

@@ -1,8 +1,7 @@
 -- What a class list says in the parts of its objects, by their names. A list or text is empty, and a number 0, where there is
 -- none.
 use Rattle.std.specs.{Prelude.{ℕ, ℤ, pos, List, [], Option, option_and_then, unwrap_or}, Option.{option_map_or}}
-use Rattle.rio_value.specs.{Accessors.{integer_in, list_in, pointed_object, part_of, parts_of, text_bytes_in, unsigned_integer_in}, declared.value.Part.{Part}}
-use Rattle.rio_value.specs.declared.value.Value.{Value}
+use Rattle.rio_format.specs.{Accessors.{integer_in, list_in, pointed_object, part_of, parts_of, text_bytes_in, unsigned_integer_in}, declared.value.Part.{Part}, declared.value.Value.{Value}}
 
 -- ---- one value
 

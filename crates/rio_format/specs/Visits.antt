@@ -1,6 +1,6 @@
 -- The classes whose bases are looked through.
 use Rattle.std.specs.{Prelude.{ℕ, ℤ, List, [], ◌∷◌, ◌++◌, Bool, ◌&&◌, if◌then◌else◌}, List.{list_any}, Ordering.{int_eq}, Str.{bytes_eq}}
-use Rattle.rio_types.specs.declared.class.Base.{Base}
+use Rattle.rio_format.specs.declared.class.Base.{Base}
 
 abbrev pub base_of : List ℕ → ℤ → Base
 base_of class version = record { name = class; version = version }

@@ -1,7 +1,6 @@
 -- The bytes of the class list that is written for declared classes.
 use Rattle.std.specs.Prelude.{ℕ, ◌+◌, min, List}
-use Rattle.rio_types.specs.declared.class.ClassDef.{ClassDef}
-use Rattle.rio_format.specs.{Descriptions.{description_classes}, TreeClasses.{written_classes}, Written.{written_form}, WrittenList.{class_list_value}}
+use Rattle.rio_format.specs.{declared.class.ClassDef.{ClassDef}, Descriptions.{description_classes}, TreeClasses.{written_classes}, Written.{written_form}, WrittenList.{class_list_value}}
 
 -- what is written from this place on for these classes
 abbrev pub class_list_bytes : ℕ → List ClassDef → List ℕ

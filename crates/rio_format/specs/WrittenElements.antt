@@ -1,10 +1,9 @@
 -- The elements that are written for the bases and members of a class.
 use Rattle.std.specs.Prelude.{ℕ, ◌+◌, ◌*◌, ℤ, pos, List, [], ◌∷◌, ◌++◌, length, map, codes, Bool, false, ◌||◌, Option, option_map, if◌then◌else◌}
 use Rattle.std.specs.{Option.{option_map_or, option_or}, Str.{bytes_eq}}
-use Rattle.rio_types.specs.{Classes.{newest_in}, declared.class.Base.{Base}, declared.class.ClassDef.{ClassDef}, declared.class.Member.{Member}}
-use Rattle.rio_types.specs.declared.kind.Kind.{Kind, TheVariants.{Plain, Counter, Fixed, Counted, Text as Texted, Inline, Pointer, Other}}
-use Rattle.rio_types.specs.declared.kind.Primitive.{Primitive, TheVariants.{I8, I16, I32, I64, U8, U16, U32, U64, Bool as Boolean, F32, F64}}
-use Rattle.rio_value.specs.{declared.value.Part.{Part}, declared.value.Value.{Int, Text}}
+use Rattle.rio_format.specs.{Classes.{newest_in}, declared.class.Base.{Base}, declared.class.ClassDef.{ClassDef}, declared.class.Member.{Member}}
+use Rattle.rio_format.specs.declared.kind.Kind.{Kind, TheVariants.{Plain, Counter, Fixed, Counted, Text as Texted, Inline, Pointer, Other}}
+use Rattle.rio_format.specs.{declared.kind.Primitive.{Primitive, TheVariants.{I8, I16, I32, I64, U8, U16, U32, U64, Bool as Boolean, F32, F64}}, declared.value.Part.{Part}, declared.value.Value.{Int, Text}}
 use Rattle.rio_format.specs.{Bodies.{headed_version, part}, Prims.{width_of}, Slots.{has_base}}
 
 -- what is written for a base or a member

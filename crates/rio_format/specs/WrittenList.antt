@@ -1,7 +1,6 @@
 -- The class list that is written for a list of classes, as the value of a TList.
 use Rattle.std.specs.Prelude.{ℕ, ◌+◌, pos, List, [], ◌∷◌, length, map, codes}
-use Rattle.rio_types.specs.declared.class.ClassDef.{ClassDef}
-use Rattle.rio_value.specs.{declared.value.Part.{Part}, declared.value.Value.{Value, Int, Text, List as Items, Object, Pointed}}
+use Rattle.rio_format.specs.{declared.class.ClassDef.{ClassDef}, declared.value.Part.{Part}, declared.value.Value.{Value, Int, Text, List as Items, Object, Pointed}}
 use Rattle.rio_format.specs.{Bodies.{part}, WrittenElements.{WrittenElement, written_elements}}
 
 -- ---- the bases that all of them have

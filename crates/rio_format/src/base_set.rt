@@ -13,8 +13,7 @@ pub(crate) struct BorrowedBase<'a> {
 }
 
 impl<'a> Model for BorrowedBase<'a> {
-    ghost use Rattle.rio_format.specs.Visits.{base_of};
-    ghost use Rattle.rio_types.specs.declared.class.Base.{Base};
+    ghost use Rattle.rio_format.specs.{Visits.{base_of}, declared.class.Base.{Base}};
 
     ghost Value = { Base };
 
@@ -66,7 +65,7 @@ pub struct BaseSet<'a> {
 
 impl<'a> Model for BaseSet<'a> {
     ghost use Rattle.std.specs.Prelude.{List};
-    ghost use Rattle.rio_types.specs.declared.class.Base.{Base};
+    ghost use Rattle.rio_format.specs.declared.class.Base.{Base};
 
     ghost Value = { List Base };
 

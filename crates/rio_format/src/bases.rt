@@ -1,17 +1,13 @@
 //! Which classes have which among their bases.
 ghost use Rattle.std.specs.Prelude.{◌≡◌, ◌≤◌, ◌∷◌, [], true, false, length, IfOk};
-ghost use Rattle.rio_format.specs.Bodies.{form_of};
-ghost use Rattle.rio_format.specs.Slots.{body_bases, derives_from, has_base, headed_body, is_headed};
-ghost use Rattle.rio_format.specs.Lists.{listed};
-ghost use Rattle.rio_format.specs.Bases.{Expanded, HaveVisitedBases, Pushed, any_direct, are_targets};
-ghost use Rattle.rio_format.specs.Visits.{base_of};
+ghost use Rattle.rio_format.specs.{Bodies.{form_of}, Slots.{body_bases, derives_from, has_base, headed_body, is_headed}, Lists.{listed}, Bases.{Expanded, HaveVisitedBases, Pushed, any_direct, are_targets}, Visits.{base_of}};
 
+use crate::Base;
 use crate::base_set::BaseSet;
 use crate::body::{Body, BodyKind, listed_body};
 use crate::form::{Form, form_of};
 use crate::lists::ClassLists;
 use rio_num::NoMemory;
-use rio_types::Base;
 use std::alloc::Global;
 
 /// Whether objects of the class begin with a header.

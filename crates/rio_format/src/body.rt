@@ -1,16 +1,11 @@
 //! What stands behind the header of an object.
 ghost use Rattle.std.specs.Prelude.{◌≡◌, ℤ, pos, Option, Some, None};
 ghost use Rattle.std.specs.Option.{option_copied, option_map, option_map_or};
-ghost use Rattle.rio_format.specs.Bodies.{body_of, built_in, by_description, described, headed_version, row_of};
-ghost use Rattle.rio_format.specs.Slots.{declared_body};
-ghost use Rattle.rio_format.specs.Lists.{listed};
-ghost use Rattle.rio_types.specs.Classes.{judged};
-ghost use Rattle.rio_types.specs.declared.class.ClassDef.{ClassDef as Class};
+ghost use Rattle.rio_format.specs.{Bodies.{body_of, built_in, by_description, described, headed_version, row_of}, Slots.{declared_body}, Lists.{listed}, Classes.{judged}, declared.class.ClassDef.{ClassDef as Class}};
 
 use crate::built_in::BuiltIn;
 use crate::lists::ClassLists;
-use rio_buffer::Header;
-use rio_types::{ClassDef, Classes};
+use crate::{ClassDef, Classes, Header};
 use std::marker::Model;
 
 /// What an object has behind its header.

@@ -3,8 +3,8 @@ ghost use Rattle.std.specs.Prelude.{◌≡◌, Some, None};
 ghost use Rattle.std.specs.Str.{bytes_eq};
 ghost use Rattle.rio_format.specs.Bodies.{headed_class, headless_class, row_of};
 
+use crate::Prim;
 use crate::form::Form;
-use rio_types::Prim;
 
 /// A class that is built in.
 #[derive(Clone, Copy)]

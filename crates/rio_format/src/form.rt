@@ -2,8 +2,8 @@
 ghost use Rattle.std.specs.Prelude.{◌≡◌};
 ghost use Rattle.rio_format.specs.Bodies.{form_of};
 
+use crate::Prim;
 use crate::built_in::BuiltIn;
-use rio_types::Prim;
 
 /// How an object of a class begins.
 #[derive(Clone, Copy)]

@@ -1,10 +1,9 @@
 //! Looking classes up in one list, or in two, or in two with one class behind them.
 ghost use Rattle.std.specs.Prelude.{◌≡◌, ◌<◌, [], ◌∷◌, ◌++◌, length};
 ghost use Rattle.std.specs.Option.{option_copied, option_or};
-ghost use Rattle.rio_types.specs.Classes.{find_in, newest_in};
-ghost use Rattle.rio_format.specs.Lists.{listed, newer_of_two};
+ghost use Rattle.rio_format.specs.{Classes.{find_in, newest_in}, Lists.{listed, newer_of_two}};
 
-use rio_types::{ClassDef, Classes};
+use crate::{ClassDef, Classes};
 
 /// Classes in one list, or in two of which the second stands behind the first, and maybe one class behind them.
 #[derive(Clone, Copy)]

@@ -1,10 +1,9 @@
 //! The parts of objects that are made, and objects of built-in classes over them.
 ghost use Rattle.std.specs.Prelude.{◌≡◌, IfOk};
-ghost use Rattle.rio_format.specs.Bodies.{part};
-ghost use Rattle.rio_format.specs.WrittenList.{array_object, list_object, plain_object, titled_object};
+ghost use Rattle.rio_format.specs.{Bodies.{part}, WrittenList.{array_object, list_object, plain_object, titled_object}};
 
+use crate::{Part, Parts, Value, Values};
 use rio_num::{Name, NoMemory};
-use rio_value::{Part, Parts, Value, Values};
 use std::alloc::Global;
 use std::marker::Model;
 
@@ -28,8 +27,8 @@ pub struct PartList {
 impl Model for PartList {
     ghost use Rattle.std.specs.Coded.{codes};
     ghost use Rattle.std.specs.Prelude.{List};
-    ghost use Rattle.rio_value.specs.contracts.value.Value as values;
-    ghost use Rattle.rio_value.specs.declared.value.Part.{Part as ValuePart};
+    ghost use Rattle.rio_format.specs.contracts.value.Value as values;
+    ghost use Rattle.rio_format.specs.declared.value.Part.{Part as ValuePart};
 
     ghost Value = { List ValuePart };
 
@@ -40,8 +39,7 @@ impl Model for PartList {
 
 impl PartList {
     ghost use Rattle.std.specs.Prelude.{[], ◌∷◌, ◌++◌};
-    ghost use Rattle.rio_value.specs.declared.value.Value.{Int, Object, Text};
-    ghost use Rattle.rio_format.specs.WrittenList.{number_part};
+    ghost use Rattle.rio_format.specs.{declared.value.Value.{Int, Object, Text}, WrittenList.{number_part}};
 
     /// No parts.
     pub fn new(alloc: Global) -> PartList

@@ -1,12 +1,11 @@
 //! The parts of objects, and what may stand there.
 ghost use Rattle.std.specs.Prelude.{◌≡◌, Some, slice_get};
 ghost use Rattle.rio_format.specs.Bodies.{t_named, t_obj_string, t_object_base};
-ghost use Rattle.rio_format.specs.Slots.{arrayed_fields, bare_fields, base_field, body_fields, declared_body, described_fields, field, fields_of, kinded, listed_fields, member_field, number_fields};
-ghost use Rattle.rio_format.specs.Bodies.{form_of};
+ghost use Rattle.rio_format.specs.{Slots.{arrayed_fields, bare_fields, base_field, body_fields, declared_body, described_fields, field, fields_of, kinded, listed_fields, member_field, number_fields}, Bodies.{form_of}};
 
 use crate::body::{Body, BodyKind, declared_body};
 use crate::form::{Form, form_of};
-use rio_types::{Base, ClassDef, Classes, Kind, Member, Prim};
+use crate::{Base, ClassDef, Classes, Kind, Member, Prim};
 use std::marker::Model;
 
 /// What may stand at a place within a value.
@@ -14,8 +13,7 @@ use std::marker::Model;
 pub struct Slot<'a>(pub SlotKind<'a>);
 
 impl<'a> Model for Slot<'a> {
-    ghost use Rattle.rio_format.specs.Slots.{Slot};
-    ghost use Rattle.rio_format.specs.SlotCode.{slot_code};
+    ghost use Rattle.rio_format.specs.{Slots.{Slot}, SlotCode.{slot_code}};
 
     ghost Value = { Slot };
 
@@ -71,8 +69,7 @@ pub struct Field<'a> {
 }
 
 impl<'a> Model for Field<'a> {
-    ghost use Rattle.rio_format.specs.Slots.{Field};
-    ghost use Rattle.rio_format.specs.SlotCode.{field_code};
+    ghost use Rattle.rio_format.specs.{Slots.{Field}, SlotCode.{field_code}};
 
     ghost Value = { Field };
 
@@ -88,8 +85,7 @@ pub struct Fields<'a>(pub FieldsKind<'a>);
 impl<'a> Model for Fields<'a> {
     ghost use Rattle.std.specs.Prelude.{List};
     ghost use Rattle.std.specs.Coded.{coded_list};
-    ghost use Rattle.rio_format.specs.Slots.{Field as PartField};
-    ghost use Rattle.rio_format.specs.SlotCode.{field_code};
+    ghost use Rattle.rio_format.specs.{Slots.{Field as PartField}, SlotCode.{field_code}};
 
     ghost Value = { List PartField };
 

@@ -2,7 +2,7 @@
 ghost use Rattle.std.specs.Prelude.{◌≡◌, ◌<◌};
 ghost use Rattle.rio_format.specs.Prims.{width_of};
 
-use rio_types::Prim;
+use crate::Prim;
 
 /// How many bytes a number has.
 pub fn width_of(of: Prim) -> u64

@@ -5,8 +5,7 @@ use Rattle.std.specs.Prelude.{is_some}
 use Rattle.rio_format.specs.{Bodies.{Counters}, Fits.{Fitting, fits_signed, fitting_step, pass}, Slots.{kinded}}
 use Rattle.rio_format.proofs.ValueCases.{fold_Int}
 use Rattle.rio_machine.specs.Rows.{columns_fit, columns_of, stands_in}
-use Rattle.rio_types.specs.{declared.class.ClassDef.{ClassDef}, declared.kind.Kind.TheVariants.{Plain}, declared.kind.Primitive.TheVariants.{I32}}
-use Rattle.rio_value.specs.declared.value.Value.{Int}
+use Rattle.rio_format.specs.{declared.class.ClassDef.{ClassDef}, declared.kind.Kind.TheVariants.{Plain}, declared.kind.Primitive.TheVariants.{I32}, declared.value.Value.{Int}}
 use Rattle.rio_gen.specs.{Generated.{generated_branch, generated_row, generated_value, numbers_from}, Laws.{GeneratedRowsFit, TreeIsStated}}
 
 pub tree_is_stated : TreeIsStated

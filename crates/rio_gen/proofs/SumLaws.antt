@@ -5,8 +5,8 @@ use Rattle.std.proofs.lemmas.Int.{int_wrap-add_left, ints}
 use Rattle.std.specs.Int.{int_wrap, w128}
 use Rattle.rio_gen.proofs.NumberLaws.{no_numbers, one_number}
 use Rattle.rio_gen.specs.{Generated.{generated_row, generated_value, numbers_from, rows_from}, Laws.{SumIsKnown}, Summary.{sum_of_row, sum_of_rows}}
-use Rattle.rio_value.specs.{Accessors.{number_in}, declared.value.Value.{Value, Int, out-Value, out-roll-Value, TheVariants.{rolls-Int}}}
-use Rattle.rio_value.specs.declared.value.Value.TheOpen as layer
+use Rattle.rio_format.specs.{Accessors.{number_in}, declared.value.Value.{Value, Int, out-Value, out-roll-Value, TheVariants.{rolls-Int}}}
+use Rattle.rio_format.specs.declared.value.Value.TheOpen as layer
 
 number_of_integer : (z : ℤ) → number_in (out-Value (Int z)) ≡ z
 number_of_integer z = ap number_in (ap out-Value (sym (rolls-Int z)) ∙ out-roll-Value (layer.Int z))

@@ -3,7 +3,7 @@ use Rattle.std.specs.Prelude.{◌≡◌, ℕ, zero, suc, ◌+◌, ◌-◌, ◌*�
 use Rattle.rio_leaf.specs.{declared.branch.BranchDef.{BranchDef}, declared.branch.Shape.TheVariants.{Leaves}}
 use Rattle.rio_leaf.specs.{declared.leaf.Dim.TheVariants.{One}, declared.leaf.Leaf.{Leaf}}
 use Rattle.rio_machine.specs.declared.command.Command.{Command, TheVariants.{Tree as MakeTree, Fill}}
-use Rattle.rio_value.specs.declared.value.Value.{Value, Int}
+use Rattle.rio_format.specs.declared.value.Value.{Value, Int}
 
 -- so many numbers, from the first on
 unfoldable pub numbers_from : ℕ → ℕ → List ℕ

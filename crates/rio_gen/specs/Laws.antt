@@ -3,7 +3,7 @@ use Rattle.std.specs.Prelude.{◌≡◌, ℕ, ◌+◌, ◌*◌, ◌<◌, pos, Li
 use Rattle.rio_num.specs.Word.{is_item_text}
 use Rattle.rio_leaf.specs.Stated.{are_stated_branches}
 use Rattle.rio_machine.specs.{Limits.{has_many_branches}, Rows.{row_fits}}
-use Rattle.rio_types.specs.declared.class.ClassDef.{ClassDef}
+use Rattle.rio_format.specs.declared.class.ClassDef.{ClassDef}
 use Rattle.rio_gen.specs.{Generated.{generated_branches, generated_row, generated_rows, tree_name}, Summary.{sum_of_rows}}
 
 -- a line of the script can state the tree, and it hasn't too many branches

@@ -1,7 +1,7 @@
 -- What is said of a generated file.
 use Rattle.std.specs.{Prelude.{ℕ, ℤ, pos, ◌+ℤ◌, List, [], ◌∷◌, ◌++◌, codes}, Fmt.{decimal, signed_decimal}}
 use Rattle.rio_gen.specs.declared.summary.Summary.{Summary}
-use Rattle.rio_value.specs.{Accessors.{number_in}, declared.value.Value.{Value, out-Value}}
+use Rattle.rio_format.specs.{Accessors.{number_in}, declared.value.Value.{Value, out-Value}}
 
 -- the integers of a row, all together; another value counts as 0
 abbrev pub sum_of_row : List Value → ℤ

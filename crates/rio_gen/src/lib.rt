@@ -15,6 +15,3 @@ mod summary;
 pub use laws::{generated_rows_fit, generated_sum_is_known, generated_tree_is_stated};
 pub use script::{GeneratedScript, generated, generated_script};
 pub use summary::{Summary, add_integers, print_summary};
-
-#[cfg(test)]
-mod tests;

@@ -6,7 +6,7 @@ ghost use Rattle.rio_machine.specs.declared.command.Command.TheVariants.{Fill as
 use rio_leaf::{BranchDef, BranchDefs, Dim, Leaf, Leaves, Shape};
 use rio_machine::{Command, Commands};
 use rio_num::{Name, NoMemory};
-use rio_value::{Value, Values};
+use rio_format::{Value, Values};
 use std::alloc::Global;
 use std::marker::Model;
 
@@ -103,7 +103,7 @@ pub struct GeneratedScript {
 impl Model for GeneratedScript {
     ghost use Rattle.std.specs.Coded.{codes};
     ghost use Rattle.std.specs.Prelude.{◌≤◌, List};
-    ghost use Rattle.rio_value.specs.contracts.value.Value as values;
+    ghost use Rattle.rio_format.specs.contracts.value.Value as values;
     ghost use Rattle.rio_gen.specs.Generated.{commands_left};
     ghost use Rattle.rio_machine.specs.declared.command.Command.{Command as ScriptCommand};
 

@@ -4,11 +4,10 @@ ghost use Rattle.std.specs.Fmt.{decimal};
 ghost use Rattle.std.specs.Int.{int_wrap, w128};
 ghost use Rattle.rio_num.specs.Room.{with_more};
 ghost use Rattle.rio_gen.specs.Summary.{sum_of_row, summary_text};
-ghost use Rattle.rio_value.specs.Accessors.{number_in};
-ghost use Rattle.rio_value.specs.declared.value.Value.{out-Value};
+ghost use Rattle.rio_format.specs.{Accessors.{number_in}, declared.value.Value.{out-Value}};
 
 use rio_num::{Bytes, NoMemory};
-use rio_value::Value;
+use rio_format::Value;
 
 /// A generated file: how many entries it was asked for, how many baskets its tree has, and the sum of all integers in the
 /// rows of the tree.

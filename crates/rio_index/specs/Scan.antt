@@ -2,8 +2,7 @@
 use Rattle.std.specs.Prelude.{◌≡◌, ℕ, ◌+◌, ◌-◌, ◌<◌, List, [], ◌∷◌, length, map, slice_get, slice_set, Option, Some, None, is_none, unwrap_or, option_and_then, Result, Bool, false, ◌&&◌, not, nat_le, nat_lt, if◌then◌else◌}
 use Rattle.std.specs.Option.{option_map}
 use Rattle.rio_leaf.specs.declared.branch.BranchDef.{BranchDef}
-use Rattle.rio_types.specs.declared.class.ClassDef.{ClassDef}
-use Rattle.rio_value.specs.declared.value.Value.{Value}
+use Rattle.rio_format.specs.{declared.class.ClassDef.{ClassDef}, declared.value.Value.{Value}}
 use Rattle.rio_entry.specs.Rows.{broken_branch}
 use Rattle.rio_machine.specs.declared.entry_fault.EntryFault.{EntryFault}
 use Rattle.rio_machine.specs.RowEntries.{row_in}

@@ -1,5 +1,5 @@
 //! What a scan has of one branch.
-use rio_basket::StoredBasket;
+use rio_key::StoredBasket;
 use rio_tree::BranchRefusal;
 
 /// A basket that is held: the number of its first entry, counted over the branch from 0, and its entries.

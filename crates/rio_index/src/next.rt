@@ -10,8 +10,7 @@ use crate::lane::{Held, Lane};
 use rio_entry::{EntryFault, RowPart, TreeCounters, broken_branch, read_row};
 use rio_num::NoMemory;
 use rio_tree::Branch;
-use rio_types::Classes;
-use rio_value::Values;
+use rio_format::{Classes, Values};
 use std::alloc::Global;
 
 // The bytes of the entry in the basket that is held.

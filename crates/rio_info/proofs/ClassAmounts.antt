@@ -3,13 +3,10 @@ use Rattle.std.proofs.Common.{◌≡◌, ◌≤◌, ◌+◌, ℕ, ℤ, pos, Bool
 use Rattle.std.proofs.lemmas.List.{append-nil}
 use Rattle.byteorder.specs.Endian.{big_bytes}
 use Rattle.rio_num.specs.Text.{text_bytes}
-use Rattle.rio_types.specs.{declared.class.Base.{Base}, declared.class.ClassDef.{ClassDef}, declared.class.Member.{Member}}
-use Rattle.rio_types.specs.declared.kind.Kind.{Kind, TheVariants.{Plain, Counter, Fixed, Counted, Text as Texted, Inline, Pointer, Other}}
-use Rattle.rio_types.specs.declared.kind.Primitive.TheVariants.{I32, U32}
-use Rattle.rio_value.specs.{declared.value.Part.{Part}, declared.value.Value.{Value, Int, Text, List as Items, Object, Pointed, TheFolds.{fold_out-Part}}}
-use Rattle.rio_buffer.specs.Writer.{Writer}
-use Rattle.rio_format.specs.{Bodies.{form_of, member, part}, Descriptions.{description_classes, element_base}}
-use Rattle.rio_format.specs.Slots.{Slot, any_pointer, base_field, based, flags, kinded, link, many, member_field}
+use Rattle.rio_format.specs.{declared.class.Base.{Base}, declared.class.ClassDef.{ClassDef}, declared.class.Member.{Member}}
+use Rattle.rio_format.specs.{declared.kind.Kind.{Kind, TheVariants.{Plain, Counter, Fixed, Counted, Text as Texted, Inline, Pointer, Other}}, declared.kind.Primitive.TheVariants.{I32, U32}}
+use Rattle.rio_format.specs.{declared.value.Part.{Part}, declared.value.Value.{Value, Int, Text, List as Items, Object, Pointed, TheFolds.{fold_out-Part}}, Writer.{Writer}}
+use Rattle.rio_format.specs.{Bodies.{form_of, member, part}, Descriptions.{description_classes, element_base}, Slots.{Slot, any_pointer, base_field, based, flags, kinded, link, many, member_field}}
 use Rattle.rio_format.specs.Written.{Writing, all, fields_bytes, form_bytes, headed_bytes, int_bytes, list_bytes, pointed_bytes, writing_of, writing_step}
 use Rattle.rio_format.specs.WrittenElements.{WrittenElement, base_element, inline_element, kind_element, member_element, pointer_element, primitive_name, reaches_object, starred, written_elements}
 use Rattle.rio_format.specs.WrittenList.{array_object, class_links, class_list_value, class_pointer, element_object, element_parts, index_list, info_object, linked, list_object, number_part, plain_object, pointers_from, titled_object}

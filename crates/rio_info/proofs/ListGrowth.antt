@@ -3,8 +3,7 @@ use Rattle.std.proofs.Common.{◌≡◌, ◌≤◌, ◌+◌, ℕ, Bool, true, fa
 use Rattle.std.proofs.{lemmas.List.{append-nil, Folds.{list_any-append}}, Math.Bool.{or-true}}
 use Rattle.std.specs.{Prelude.{if◌then◌else◌}, Str.{bytes_eq}}
 use Rattle.rio_num.proofs.FreshNames.{is_one_of}
-use Rattle.rio_types.specs.declared.class.ClassDef.{ClassDef}
-use Rattle.rio_buffer.specs.ReaderState.{WordsMet, no_words}
+use Rattle.rio_format.specs.{declared.class.ClassDef.{ClassDef}, ReaderState.{WordsMet, no_words}}
 use Rattle.rio_format.specs.TreeClasses.{array_member, branch_class, leaf_class, leaf_members, object_branch_class, object_branch_members, tree_class, tree_classes, tree_members, written_classes}
 use Rattle.rio_format.specs.{WrittenBytes.{class_list_bytes, written_list}, WrittenElements.{inline_element, member_element, pointer_element, reaches_object}}
 use Rattle.rio_model.specs.StateClasses.{AreAccepted, AreDeclared, HasShortList, LastLengthDecides, WrittenLengthsAreOne, WrittenListsGrow}

@@ -3,8 +3,7 @@ use Rattle.std.proofs.Common.{◌≡◌, ℕ, ◌+◌, ◌<◌, ◌≤◌, List,
 use Rattle.std.proofs.lemmas.List.{append-nil, drop_more, drop_all}
 use Rattle.std.specs.{Prelude.{if◌then◌else◌, is_some, option_and_then, option_map, unwrap_or, pos}, List.{list_any}, Option.{option_or}, Ordering.{int_eq}}
 use Rattle.std.specs.Str.{bytes_eq}
-use Rattle.rio_types.specs.{declared.class.Member.{Member}, declared.kind.Kind.{Kind, TheVariants.{Plain, Counted, Other}}, declared.kind.Primitive.{Primitive}}
-use Rattle.rio_value.specs.declared.value.Value.{Value}
+use Rattle.rio_format.specs.{declared.class.Member.{Member}, declared.kind.Kind.{Kind, TheVariants.{Plain, Counted, Other}}, declared.kind.Primitive.{Primitive}, declared.value.Value.{Value}}
 use Rattle.rio_format.specs.Elements.{Element, base_of_element, counted_of, counters_behind, element_of, fixed_kind, kind_of, member_of, members_of, own_kind, primitive_by_code}
 
 -- the same names are among them

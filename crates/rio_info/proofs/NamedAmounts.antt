@@ -4,8 +4,7 @@ use Rattle.std.proofs.{lemmas.List.{length-append, Folds.{list_any-append}}, lem
 use Rattle.std.specs.{Prelude.{if◌then◌else◌, not}, Int.{w16, cast_unsigned}, List.{find, list_any}, Str.{bytes_eq}}
 use Rattle.byteorder.specs.Endian.{big_bytes}
 use Rattle.rio_num.proofs.FreshNames.{is_one_of}
-use Rattle.rio_buffer.specs.{ReaderState.{WordsMet, with_label, with_name}, Writer.{Writer, class_by, class_bytes}}
-use Rattle.rio_format.specs.Written.{both, counted, headed_bytes, just}
+use Rattle.rio_format.specs.{ReaderState.{WordsMet, with_label, with_name}, Writer.{Writer, class_by, class_bytes}, Written.{both, counted, headed_bytes, just}}
 use Rattle.rio_write.specs.{Measuring.{AreBelow}, Writing.{pointer_to}}
 use Rattle.rio_write.proofs.MeasureLaws.{below_more, below_push, named_push}
 

@@ -2,8 +2,7 @@
 use Rattle.std.proofs.Common.{◌≡◌, ◌≤◌, ◌+◌, ◌-◌, ◌^◌, ◌++◌, ℕ, List, length, true, Result, Ok, Err, IfOk, sym, subst, arith}
 use Rattle.std.specs.List.{list_all}
 use Rattle.rio_num.specs.{Room.{Room, room_of}, declared.no_memory.NoMemory.{NoMemory}}
-use Rattle.rio_types.specs.declared.class.ClassDef.{ClassDef}
-use Rattle.rio_format.specs.{ClassList.{class_list_at}, TreeClasses.{written_classes}, WrittenBytes.{length_limit, written_list}}
+use Rattle.rio_format.specs.{declared.class.ClassDef.{ClassDef}, ClassList.{class_list_at}, TreeClasses.{written_classes}, WrittenBytes.{length_limit, written_list}}
 use Rattle.rio_model.specs.Described.{is_described}
 use Rattle.rio_model.proofs.{ListNumbers.{written_are_described}, ListSpelled.{written_classes_are_read}}
 

@@ -1,14 +1,11 @@
 //! The classes that a list describes.
 ghost use Rattle.std.specs.Prelude.{◌≡◌, codes, option_and_then, option_copied, pos, IfOk};
-ghost use Rattle.rio_format.specs.ClassList.{class_with, classes_of, described_class, element_items, item_class, list_items};
-ghost use Rattle.rio_format.specs.ValueParts.{parts_behind};
-ghost use Rattle.rio_value.specs.Accessors.{part_of};
+ghost use Rattle.rio_format.specs.{ClassList.{class_with, classes_of, described_class, element_items, item_class, list_items}, ValueParts.{parts_behind}, Accessors.{part_of}};
 
 use crate::members::{bases_of, members_of};
 use crate::parts::{base_parts, items_in, list_of, parts_behind, signed_of, text_of, unsigned_of};
 use rio_num::{Name, NoMemory};
-use rio_types::{ClassDef, Classes};
-use rio_value::{Part, Value, part_of};
+use rio_format::{ClassDef, Classes, Part, Value, part_of};
 use std::alloc::Global;
 
 // The parts of the TObjArray behind the pointer to a class's elements.

@@ -3,12 +3,10 @@ ghost use Rattle.std.specs.Prelude.{◌≡◌, ◌&&◌};
 ghost use Rattle.std.specs.Option.{option_copied};
 ghost use Rattle.std.specs.Ordering.{int_eq};
 ghost use Rattle.std.specs.Str.{bytes_eq};
-ghost use Rattle.rio_format.specs.Descriptions.{is_element};
-ghost use Rattle.rio_format.specs.Elements.{element_of, element_with, layer_element, pointed_element_parts};
-ghost use Rattle.rio_value.specs.declared.value.Value.{out-Value};
+ghost use Rattle.rio_format.specs.{Descriptions.{is_element}, Elements.{element_of, element_with, layer_element, pointed_element_parts}, declared.value.Value.{out-Value}};
 
 use crate::parts::{base_parts, signed_in, signed_of, text_in, text_of};
-use rio_value::{Part, Value, part_of};
+use rio_format::{Part, Value, part_of};
 use std::marker::Model;
 
 /// What an element of a class says: the name and title, the code of its type, how many values an array

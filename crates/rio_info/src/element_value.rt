@@ -1,14 +1,11 @@
 //! The elements of class lists, as values.
 ghost use Rattle.std.specs.Prelude.{◌≡◌, ◌++◌, IfOk};
-ghost use Rattle.rio_format.specs.WrittenElements.{count_parts};
-ghost use Rattle.rio_format.specs.WrittenList.{element_object, element_parts, index_list};
+ghost use Rattle.rio_format.specs.{WrittenElements.{count_parts}, WrittenList.{element_object, element_parts, index_list}};
 ghost use Rattle.rio_describe.specs.ElementClasses.{added_parts};
 
 use rio_describe::{Element, ElementClass, TypeName};
-use rio_format::{PartList, titled_object};
+use rio_format::{ClassDef, PartList, Value, Values, titled_object};
 use rio_num::{Name, NoMemory};
-use rio_types::ClassDef;
-use rio_value::{Value, Values};
 use std::alloc::Global;
 
 // The greatest index in each of five dimensions, of which there is one at most.

@@ -1,11 +1,10 @@
 //! The kinds of members.
 ghost use Rattle.std.specs.Prelude.{◌≡◌, IfOk};
-ghost use Rattle.rio_format.specs.Elements.{counted_kind, fixed_kind, kind_of, own_kind, primitive_by_code, without_star};
-ghost use Rattle.rio_types.specs.declared.kind.Kind.TheVariants.{Inline as InlineKind, Pointer as PointerKind};
+ghost use Rattle.rio_format.specs.{Elements.{counted_kind, fixed_kind, kind_of, own_kind, primitive_by_code, without_star}, declared.kind.Kind.TheVariants.{Inline as InlineKind, Pointer as PointerKind}};
 
 use crate::element::Element;
 use rio_num::{Name, Names, NoMemory};
-use rio_types::{Kind, Prim};
+use rio_format::{Kind, Prim};
 use std::alloc::Global;
 
 // The single values that a code stands for.

@@ -1,13 +1,11 @@
 //! How long class lists are, without writing them.
 ghost use Rattle.std.specs.Prelude.{◌≡◌, [], ◌∷◌, ◌++◌, ℕ, length, IfOk};
-ghost use Rattle.rio_format.specs.Lists.{listed};
-ghost use Rattle.rio_format.specs.WrittenBytes.{class_list_bytes, told_length, written_list};
+ghost use Rattle.rio_format.specs.{Lists.{listed}, WrittenBytes.{class_list_bytes, told_length, written_list}};
 
 use crate::value::class_list_value;
 use rio_describe::{JudgedLists, description_classes, tree_classes};
-use rio_format::ClassLists;
+use rio_format::{ClassDef, ClassLists, Classes};
 use rio_num::NoMemory;
-use rio_types::{ClassDef, Classes};
 use rio_write::written_length;
 use std::alloc::Global;
 

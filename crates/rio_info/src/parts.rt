@@ -3,7 +3,7 @@ ghost use Rattle.std.specs.Prelude.{◌≡◌};
 ghost use Rattle.std.specs.Option.{option_copied};
 ghost use Rattle.rio_format.specs.ValueParts.{base_parts, items_in, list_of, parts_behind, signed_in, signed_of, text_in, text_in_part, unsigned_in, unsigned_of};
 
-use rio_value::{Part, Value, part_of};
+use rio_format::{Part, Value, part_of};
 
 /// The parts of an object of the class in the version, where it begins behind a pointer.
 pub(crate) fn parts_behind<'a>(class: &[u8], version: i32, pointer: &'a Value) -> Option<&'a [Part]>

@@ -1,18 +1,14 @@
 //! Class lists are read.
 ghost use Rattle.std.specs.Prelude.{◌≡◌, ℕ, ◌+◌, ◌<◌, ◌^◌, List, ◌++◌, length, codes, Ok, IfOk};
 ghost use Rattle.rio_num.specs.Answers.{TellsUnless};
-ghost use Rattle.rio_buffer.specs.declared.fault.ObjFault.TheVariants.{NoMemory as OutOfMemory};
-ghost use Rattle.rio_format.specs.ClassList.{class_list_at, classes_of};
-ghost use Rattle.rio_format.specs.Descriptions.{description_classes};
-ghost use Rattle.rio_format.specs.Objects.{BreaksObject, SpellsObject};
-ghost use Rattle.rio_value.specs.declared.value.Value.{Value as Spelled};
+ghost use Rattle.rio_format.specs.{declared.fault.ObjFault.TheVariants.{NoMemory as OutOfMemory}, ClassList.{class_list_at, classes_of}, Descriptions.{description_classes}, Objects.{BreaksObject, SpellsObject}};
+ghost use Rattle.rio_format.specs.declared.value.Value.{Value as Spelled};
 ghost use Rattle.rio_read.specs.Reading.{Answers};
 
 use crate::classes::classes_of;
-use rio_buffer::ObjFault;
+use rio_format::{Classes, ObjFault};
 use rio_describe::description_classes;
 use rio_read::read_object;
-use rio_types::Classes;
 use std::alloc::Global;
 
 /// The classes that a class list describes, in its order, or the first fault. `bytes` are the data of an

@@ -1,17 +1,13 @@
 //! The class list that is written, as a value.
 ghost use Rattle.std.specs.Prelude.{◌≡◌, ◌+◌, ◌++◌, ◌∷◌, [], map, slice_get, IfOk, OnOk};
 ghost use Rattle.std.specs.Option.{option_copied};
-ghost use Rattle.rio_value.specs.declared.value.Value.{Pointed};
-ghost use Rattle.rio_format.specs.Lists.{listed};
-ghost use Rattle.rio_format.specs.WrittenElements.{base_element, member_element, written_elements};
+ghost use Rattle.rio_format.specs.{declared.value.Value.{Pointed}, Lists.{listed}, WrittenElements.{base_element, member_element, written_elements}};
 ghost use Rattle.rio_format.specs.WrittenList.{class_links, class_list_value, class_pointer, element_object, info_object, linked, pointers_from};
 
 use crate::element_value::element_object;
 use rio_describe::{Element, JudgedLists, base_element, member_element};
-use rio_format::{ClassLists, PartList, array_object, list_object, titled_object};
+use rio_format::{Base, ClassDef, ClassLists, Member, PartList, Value, Values, array_object, list_object, titled_object};
 use rio_num::{Boxed, Name, NoMemory};
-use rio_types::{Base, ClassDef, Member};
-use rio_value::{Value, Values};
 use std::alloc::Global;
 
 // The label behind so many from this one on. A list with more than 2^32 labels has no room in memory.

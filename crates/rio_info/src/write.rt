@@ -2,17 +2,13 @@
 ghost use Rattle.std.specs.Prelude.{◌≡◌, ◌≤◌, ◌++◌, ℕ, List, true, length, Ok, IfOk};
 ghost use Rattle.std.specs.List.{list_all};
 ghost use Rattle.rio_num.specs.Room.{room_of};
-ghost use Rattle.rio_format.specs.ClassList.{class_list_at};
-ghost use Rattle.rio_types.specs.declared.class.ClassDef.{ClassDef as Class};
+ghost use Rattle.rio_format.specs.{ClassList.{class_list_at}, declared.class.ClassDef.{ClassDef as Class}, TreeClasses.{written_classes}, WrittenBytes.{length_limit, written_list}};
 ghost use Rattle.rio_model.specs.Described.{is_described};
-ghost use Rattle.rio_format.specs.TreeClasses.{written_classes};
-ghost use Rattle.rio_format.specs.WrittenBytes.{length_limit, written_list};
 
 use crate::value::class_list_value;
 use rio_describe::{JudgedLists, description_classes, tree_classes};
-use rio_format::ClassLists;
+use rio_format::{ClassLists, Classes};
 use rio_num::{Bytes, NoMemory};
-use rio_types::Classes;
 use rio_write::write_object;
 use std::alloc::Global;
 

@@ -2,7 +2,7 @@
 use Rattle.std.proofs.Common.{List, Result, Ok, Err, IfOk}
 use Rattle.rio_key.specs.declared.head.KeyHead.{KeyHead}
 use Rattle.rio_tree_table.specs.declared.table.KeptTree.{KeptTree}
-use Rattle.rio_types.specs.declared.class.ClassDef.{ClassDef}
+use Rattle.rio_format.specs.declared.class.ClassDef.{ClassDef}
 use Rattle.rio_machine.specs.{State.{State}, declared.command.Command.{Command}}
 use Rattle.rio_judge.specs.{Judging.{WorkCanBeDone}, Stops.{GoesByItems, GoesByState, as_item}, Trees.{AnyWorkCanBeDone, HasNoTree}}
 use Rattle.rio_judge.specs.declared.{stop.Stop.{Stop}, work.Work.{Work}}

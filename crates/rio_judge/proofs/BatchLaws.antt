@@ -3,7 +3,7 @@ use Rattle.std.proofs.Common.{◌≡◌, ◌∙◌, ℕ, ◌+◌, List, [], ◌�
 use Rattle.std.proofs.lemmas.Bool.{ltb-false, or_from, or_parts}
 use Rattle.std.specs.{List.{list_any}, Prelude.{is_some, nat_lt, not}}
 use Rattle.rio_key.specs.declared.head.KeyHead.{KeyHead}
-use Rattle.rio_types.specs.declared.class.ClassDef.{ClassDef}
+use Rattle.rio_format.specs.declared.class.ClassDef.{ClassDef}
 use Rattle.rio_tree_table.specs.{Table.{tree_of}, declared.table.KeptTree.{KeptTree}}
 use Rattle.rio_machine.specs.{Limits.{batch_limit, cycle_limit, has_long_list, is_too_deep, is_too_long, item_limit, lacks_items}, State.{State, names_tree, next_cycle}}
 use Rattle.rio_machine.specs.declared.{command.Command.TheVariants.{Batch}, command.PutItem.{PutItem}, refusal.Refusal.{Refusal, TheVariants.{TooMany}}}

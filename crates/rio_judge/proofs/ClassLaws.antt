@@ -2,8 +2,7 @@
 use Rattle.std.proofs.Common.{◌≡◌, ◌≤◌, ℕ, ◌∙◌, List, [], ◌∷◌, ◌++◌, length, not, None, Ok, sym, ap}
 use Rattle.std.proofs.lemmas.Bool.{not-false}
 use Rattle.std.specs.{Prelude.{is_some, nat_le}}
-use Rattle.rio_types.specs.{Classes.{find_in}, declared.class.ClassDef.{ClassDef}}
-use Rattle.rio_format.specs.WrittenBytes.{length_limit, written_list}
+use Rattle.rio_format.specs.{Classes.{find_in}, declared.class.ClassDef.{ClassDef}, WrittenBytes.{length_limit, written_list}}
 use Rattle.rio_model.specs.Declaring.{class_limit, declare_fault, declared, holds_itself, knows_all}
 use Rattle.rio_machine.specs.{State.{State}, declared.command.Command.TheVariants.{Class}}
 use Rattle.rio_machine.specs.declared.refusal.Refusal.TheVariants.{NoSuchClass, SameVersion, HoldsItself, TooMany}

@@ -1,8 +1,7 @@
 -- The tests that can refuse a declaration, by the classes.
 use Rattle.std.proofs.Common.{◌≡◌, ℕ, ◌∙◌, List, [], ◌∷◌, ◌++◌, length, not, Option, None, Result, Err, refl, sym, ap, subst}
 use Rattle.std.specs.Prelude.{is_some, nat_le}
-use Rattle.rio_types.specs.{Classes.{find_in}, declared.class.ClassDef.{ClassDef}}
-use Rattle.rio_format.specs.WrittenBytes.{written_list}
+use Rattle.rio_format.specs.{Classes.{find_in}, declared.class.ClassDef.{ClassDef}, WrittenBytes.{written_list}}
 use Rattle.rio_model.specs.Declaring.{class_limit, declared, holds_itself, is_reserved_name, knows_all}
 use Rattle.rio_machine.specs.{Limits.{is_too_long}, State.{State}, declared.command.Command.TheVariants.{Class}}
 use Rattle.rio_machine.specs.declared.refusal.Refusal.{Refusal, TheVariants.{BadName, NoSuchClass, SameVersion, HoldsItself, TooLarge, TooMany}}

@@ -1,7 +1,7 @@
 -- A class with its bases in the newest versions is declared as it is, and breaks no rule where the class itself breaks none.
 use Rattle.std.proofs.Common.{◌≡◌, ℕ, zero, suc, ◌+◌, ◌∙◌, List, [], ◌∷◌, ◌++◌, length, map, Bool, true, false, not, ◌||◌, ◌&&◌, if◌then◌else◌, Some, None, refl, ap}
 use Rattle.std.specs.{Prelude.{is_some, nat_le}, List.{list_all, list_any}, Option.{option_or}, Str.{bytes_eq}}
-use Rattle.rio_types.specs.{Classes.{find_in}, declared.class.Base.{Base}, declared.class.ClassDef.{ClassDef}}
+use Rattle.rio_format.specs.{Classes.{find_in}, declared.class.Base.{Base}, declared.class.ClassDef.{ClassDef}}
 use Rattle.rio_model.specs.declared.declare.DeclareFault.TheVariants.{NoSuchClass, SameVersion, HoldsItself, TooMany}
 use Rattle.rio_model.specs.Declaring.{any_inline, any_within, base_declared, class_limit, declare_fault, declared, holds_itself, is_built_in_base, is_known, knows_all, knows_kind, reaches}
 

@@ -4,7 +4,7 @@ use Rattle.std.proofs.{lemmas.List.{append-nil, drop_all, drop_more, length-take
 use Rattle.std.specs.{List.{filter}, Borrow.{Bor}, BTreeMap.{BTreeMap}, Str.{bytes_eq}}
 use Rattle.rio_num.proofs.BytesEq.{bytes_eq-sym}
 use Rattle.rio_key.specs.declared.head.KeyHead.{KeyHead}
-use Rattle.rio_types.specs.declared.class.ClassDef.{ClassDef}
+use Rattle.rio_format.specs.declared.class.ClassDef.{ClassDef}
 use Rattle.rio_tree_table.specs.declared.table.KeptTree.{KeptTree}
 use Rattle.rio_machine.specs.declared.{command.PutItem.{PutItem}, refusal.Refusal.{Refusal, TheVariants.{TooMany}}}
 use Rattle.rio_step.{specs.Refusing.{first_of, refused_if, times_put}, proofs.BatchLaws.{times_more}}

@@ -4,7 +4,7 @@ use Rattle.std.specs.{Prelude.{is_some, option_and_then, ℤ}, FinMap.{contains_
 use Rattle.rio_key.specs.declared.head.KeyHead.{KeyHead}
 use Rattle.rio_dir.specs.Table.{head_of}
 use Rattle.rio_tree_table.specs.{Table.{tree_of}, declared.table.KeptTree.{KeptTree}}
-use Rattle.rio_value.specs.declared.value.Value.{Value}
+use Rattle.rio_format.specs.declared.value.Value.{Value}
 use Rattle.rio_machine.specs.{State.{State, Tree, last_cycle, names_object}, declared.command.Command.TheVariants.{Bad, Get, Ls}}
 use Rattle.rio_machine.specs.declared.refusal.Refusal.{Refusal, TheVariants.{BadLine, NoSuchName, NoSuchCycle, NameIsTree, NoVersion}}
 use Rattle.rio_step.specs.{KeptItems.{AreItemsOfState}, Refusing.{kind_change, lacks_version, meant_object, refusal_of, refused_if}}

@@ -5,8 +5,8 @@ use Rattle.std.specs.{Prelude.{unwrap_or}, FinMap.{empty, entries, entries-from_
 use Rattle.rio_num.specs.Word.{name_order}
 use Rattle.rio_key.specs.declared.head.KeyHead.{KeyHead}
 use Rattle.rio_dir.specs.Table.{AreBehind, AreOrdered}
-use Rattle.rio_value.specs.{declared.value.Part.{Part}, declared.value.Value.{Value, Object, out-roll-Value, TheOpen.{Value-F}, TheVariants.{rolls-Object}}}
-use Rattle.rio_value.specs.declared.value.Value.TheOpen as layer
+use Rattle.rio_format.specs.{declared.value.Part.{Part}, declared.value.Value.{Value, Object, out-roll-Value, TheOpen.{Value-F}, TheVariants.{rolls-Object}}}
+use Rattle.rio_format.specs.declared.value.Value.TheOpen as layer
 use Rattle.rio_machine.specs.State.{NameAndCycle, Row, State, Tree, item_order}
 use Rattle.rio_step.specs.{ItemKeys.{told_by_key}, Refusing.{object_class}, Step.{listed_object, object_listed}}
 use Rattle.rio_tree_table.specs.{Table.{AreBehind as AreTreesBehind, AreOrdered as AreTreesOrdered}, declared.table.KeptTree.{KeptTree}}

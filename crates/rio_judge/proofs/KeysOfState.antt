@@ -11,7 +11,7 @@ use Rattle.rio_num.specs.Word.{name_order}
 use Rattle.rio_key.specs.declared.head.KeyHead.{KeyHead}
 use Rattle.rio_dir.specs.Table.{AreBehind, AreOrdered, first_by, greatest_cycle, head_of, is_at_cycle, is_of_name}
 use Rattle.rio_dir.proofs.{TableLists.{cycle_of, greatest_is}, TableOrder.{at_is}}
-use Rattle.rio_value.specs.{Depth.{greatest}, declared.value.Value.{Value}}
+use Rattle.rio_format.specs.{Depth.{greatest}, declared.value.Value.{Value}}
 use Rattle.rio_machine.proofs.OrderLaws.{items_tie, items_total}
 use Rattle.rio_machine.specs.State.{NameAndCycle, State, item_order, last_cycle, names_object}
 use Rattle.rio_step.specs.{ItemKeys.{AreKeysOfState, told_by_key}, Step.{listed_object}}

@@ -4,9 +4,7 @@ use Rattle.std.proofs.lemmas.Bool.{leb-false, ltb-false, not-false}
 use Rattle.std.specs.{Prelude.{unwrap_or}, Option.{option_or}}
 use Rattle.rio_key.specs.declared.head.KeyHead.{KeyHead}
 use Rattle.rio_dir.specs.Table.{greatest_cycle, head_of}
-use Rattle.rio_types.specs.declared.class.ClassDef.{ClassDef}
-use Rattle.rio_value.specs.declared.value.Value.{Value}
-use Rattle.rio_format.specs.Written.{written_form}
+use Rattle.rio_format.specs.{declared.class.ClassDef.{ClassDef}, declared.value.Value.{Value}, Written.{written_form}}
 use Rattle.rio_model.specs.Resolving.{resolved}
 use Rattle.rio_machine.specs.{Limits.{data_length, has_long_list, is_too_deep, is_too_long, item_limit}, State.{State, next_cycle}}
 use Rattle.rio_machine.specs.declared.command.Command.TheVariants.{Put}

@@ -3,8 +3,7 @@ use Rattle.std.proofs.Common.{◌≡◌, ℕ, ◌+◌, ◌∙◌, List, [], ◌�
 use Rattle.std.specs.{Prelude.{is_some, nat_le, nat_lt, unwrap_or}, Option.{option_or}}
 use Rattle.rio_key.specs.declared.head.KeyHead.{KeyHead}
 use Rattle.rio_dir.specs.Table.{greatest_cycle}
-use Rattle.rio_types.specs.declared.class.ClassDef.{ClassDef}
-use Rattle.rio_value.specs.declared.value.Value.{Value}
+use Rattle.rio_format.specs.{declared.class.ClassDef.{ClassDef}, declared.value.Value.{Value}}
 use Rattle.rio_model.specs.Resolving.{resolved}
 use Rattle.rio_machine.specs.Limits.{cycle_limit, data_length, has_all_items, has_long_list, is_too_deep, is_too_long, item_limit}
 use Rattle.rio_machine.specs.{State.{State, names_tree, next_cycle}, declared.command.Command.TheVariants.{Put}}

@@ -7,7 +7,7 @@ use Rattle.rio_key.specs.declared.head.KeyHead.{KeyHead}
 use Rattle.rio_dir.specs.Table.{head_of}
 use Rattle.rio_leaf.specs.declared.branch.BranchDef.{BranchDef}
 use Rattle.rio_tree_table.specs.{Table.{tree_of}, declared.table.KeptTree.{KeptTree}}
-use Rattle.rio_types.specs.declared.{class.Base.{Base}, class.ClassDef.{ClassDef}}
+use Rattle.rio_format.specs.{declared.class.Base.{Base}, declared.class.ClassDef.{ClassDef}}
 use Rattle.rio_model.specs.{Declaring.{is_declared}, Resolving.{is_known_version, resolved_row}}
 use Rattle.rio_machine.specs.{Limits.{cycle_limit, has_many_branches, item_limit}, State.{Row, State, Tree, item_count, names_object, names_tree}}
 use Rattle.rio_machine.specs.declared.command.Command.{Command, TheVariants.{Tree as MakeTree, Fill, Save, Scan}}

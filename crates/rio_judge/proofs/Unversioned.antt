@@ -4,8 +4,7 @@ use Rattle.std.proofs.lemmas.Bool.{not-true, or_parts}
 use Rattle.std.specs.{Prelude.{is_some, ℤ, option_and_then, if◌then◌else◌}, FinMap.{get}, Option.{option_map_or}, Ordering.{int_eq}}
 use Rattle.rio_num.proofs.Cases.{none_from}
 use Rattle.rio_num.specs.Reading.{◌>>=◌}
-use Rattle.rio_types.specs.{Classes.{find_in}, declared.class.Base.{Base}, declared.class.ClassDef.{ClassDef}}
-use Rattle.rio_value.specs.declared.value.Value.{Value}
+use Rattle.rio_format.specs.{Classes.{find_in}, declared.class.Base.{Base}, declared.class.ClassDef.{ClassDef}, declared.value.Value.{Value}}
 use Rattle.rio_model.specs.{Mapping.{Mapped, as_version, in_description}, Resolving.{built_in_version, is_known_version}}
 use Rattle.rio_model.specs.declared.map_fault.MapFault.TheVariants.{KindChanged, NoVersion, NoMemory}
 use Rattle.rio_machine.specs.State.{Row}

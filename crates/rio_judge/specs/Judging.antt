@@ -2,9 +2,7 @@
 use Rattle.std.specs.{Prelude.{◌≡◌, ◌≤◌, ◌<◌, ℕ, ◌+◌, List, [], ◌∷◌, ◌++◌, length, Bool, true, false, Option, Some, None, IsSome}, FinMap.{get}}
 use Rattle.rio_key.specs.declared.head.KeyHead.{KeyHead}
 use Rattle.rio_dir.specs.Table.{AreOrdered, greatest_cycle, head_of}
-use Rattle.rio_types.specs.declared.class.ClassDef.{ClassDef}
-use Rattle.rio_value.specs.declared.value.Value.{Value}
-use Rattle.rio_format.specs.{Written.{written_form}, WrittenBytes.{length_limit, written_list}}
+use Rattle.rio_format.specs.{declared.class.ClassDef.{ClassDef}, declared.value.Value.{Value}, Written.{written_form}, WrittenBytes.{length_limit, written_list}}
 use Rattle.rio_model.specs.{Declaring.{declare_fault, declared}, Resolving.{resolved}}
 use Rattle.rio_machine.specs.{Limits.{batch_limit, cycle_limit, item_limit}, State.{State, next_cycle}, declared.command.Command.{Command, TheVariants.{Bad, Class, Put, Batch, Delete, Fill, Get, Scan, Ls}}, declared.command.PutItem.{PutItem}}
 use Rattle.rio_machine.specs.declared.refusal.Refusal.{Refusal, TheVariants.{BadRow, NoVersion, CycleLimit, TooLarge, TooDeep, TooMany}}

@@ -1,7 +1,7 @@
 -- What is found of the puts of a batch, one after the other.
 use Rattle.std.specs.{Prelude.{◌≡◌, ℕ, List, [], ◌∷◌, ◌++◌, length, Option, Some, None, unwrap_or, Result, Ok, Err}, Borrow.{Bor}, BTreeMap.{BTreeMap, get_by}, Cmp.Lexicographic.{slice_cmp}, Ordering.{nat_cmp}}
 use Rattle.rio_key.specs.declared.head.KeyHead.{KeyHead}
-use Rattle.rio_types.specs.declared.class.ClassDef.{ClassDef}
+use Rattle.rio_format.specs.declared.class.ClassDef.{ClassDef}
 use Rattle.rio_tree_table.specs.declared.table.KeptTree.{KeptTree}
 use Rattle.rio_machine.specs.{declared.command.PutItem.{PutItem}, declared.refusal.Refusal.{Refusal, TheVariants.{TooMany}}}
 use Rattle.rio_step.specs.Refusing.{first_of, refused_if, times_put}

@@ -3,9 +3,8 @@ use Rattle.std.specs.{Prelude.{◌≡◌, ℕ, ◌+◌, List, [], ◌∷◌, len
 use Rattle.rio_key.specs.declared.head.KeyHead.{KeyHead}
 use Rattle.rio_dir.specs.Table.{greatest_cycle, head_of}
 use Rattle.rio_tree_table.specs.{Table.{tree_of}, declared.table.KeptTree.{KeptTree}}
-use Rattle.rio_value.specs.declared.value.Value.{Value}
+use Rattle.rio_format.specs.{declared.value.Value.{Value}, declared.class.ClassDef.{ClassDef}}
 use Rattle.rio_leaf.specs.declared.branch.BranchDef.{BranchDef}
-use Rattle.rio_types.specs.declared.class.ClassDef.{ClassDef}
 use Rattle.rio_machine.specs.{Limits.{batch_limit, cycle_limit, has_long_list, has_many_branches, is_too_deep, is_too_long, item_limit}, declared.entry_fault.EntryFault.{EntryFault, TheVariants.{BadRow as BadEntryRow, TooLarge as EntryTooLarge}}}
 use Rattle.rio_machine.specs.{RefusalText.{refusal_number}, State.{Row, State}, declared.command.Command.{Command}, declared.refusal.Refusal.{Refusal, TheVariants.{BadName, NameIsTree, NameInUse, NoSuchClass, SameVersion, HoldsItself, DoesNotFit, BadRow, CycleLimit, TooLarge, TooDeep, TooMany}}}
 use Rattle.rio_model.specs.declared.declare.DeclareFault as declaring

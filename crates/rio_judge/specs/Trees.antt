@@ -3,7 +3,7 @@ use Rattle.std.specs.{Prelude.{◌≡◌, ◌<◌, ℕ, List, [], length, map, B
 use Rattle.rio_key.specs.declared.head.KeyHead.{KeyHead}
 use Rattle.rio_dir.specs.Table.{AreOrdered, head_of}
 use Rattle.rio_leaf.specs.declared.branch.BranchDef.{BranchDef}
-use Rattle.rio_types.specs.declared.{class.Base.{Base}, class.ClassDef.{ClassDef}}
+use Rattle.rio_format.specs.{declared.class.Base.{Base}, declared.class.ClassDef.{ClassDef}}
 use Rattle.rio_model.specs.Resolving.{is_known_version, resolved_row}
 use Rattle.rio_tree_table.specs.{Table.{AreOrdered as AreTreesOrdered, tree_of}, declared.table.KeptTree.{KeptTree}}
 use Rattle.rio_machine.specs.{Limits.{cycle_limit, has_long_entry, has_many_branches, item_limit}, Rows.{row_fits}, State.{Row, State}}

@@ -12,15 +12,14 @@ ghost use Rattle.rio_judge.specs.Judging.{CanBePut, WorkCanBeDone};
 ghost use Rattle.rio_judge.specs.Lowest.{IsFound, WithPut, times_by_name};
 ghost use Rattle.rio_judge.specs.Stops.{GoesByState, GoesByTests, has_many_puts, lower, object_tests};
 
-use crate::limit::{BATCH_LIMIT, ITEM_LIMIT};
 use crate::put::stored_object;
 use crate::stop::Stop;
 use crate::{StoredObject, StoredObjects, Work};
 use rio_dir::KeyTable;
-use rio_machine::{PutItem, Refusal};
+use rio_machine::{BATCH_LIMIT, ITEM_LIMIT, PutItem, Refusal};
 use rio_num::NoMemory;
 use rio_tree_table::TreeTable;
-use rio_types::Classes;
+use rio_format::Classes;
 use std::alloc::Global;
 use std::collections::BTreeMap;
 

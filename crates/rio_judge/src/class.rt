@@ -1,6 +1,6 @@
 //! Whether a declaration is refused.
 ghost use Rattle.std.specs.Prelude.{◌≡◌, ◌≤◌, ℕ, ◌∷◌, ◌++◌, [], List, length, IfOk, is_some, nat_le, not};
-ghost use Rattle.rio_format.specs.WrittenBytes.{length_limit, written_list};
+ghost use Rattle.rio_format.specs.{WrittenBytes.{length_limit, written_list}, Classes.{find_in}};
 ghost use Rattle.rio_key.specs.declared.head.KeyHead.{KeyHead};
 ghost use Rattle.rio_machine.specs.Limits.{is_too_long};
 ghost use Rattle.rio_machine.specs.State.{State};
@@ -8,21 +8,17 @@ ghost use Rattle.rio_machine.specs.declared.command.Command.{Command};
 ghost use Rattle.rio_machine.specs.declared.refusal.Refusal.{Refusal as Refusing};
 ghost use Rattle.rio_model.specs.Declaring.{class_limit, declared, holds_itself, is_reserved_name, knows_all};
 ghost use Rattle.rio_step.specs.Refusing.{refused_if};
-ghost use Rattle.rio_types.specs.Classes.{find_in};
 ghost use Rattle.rio_judge.specs.Judging.{WorkCanBeDone};
 ghost use Rattle.rio_judge.specs.Stops.{GoesByState, GoesByTests};
 
-use crate::limit::LENGTH_LIMIT;
 use crate::stop::Stop;
 use crate::{NewClass, Work};
+use rio_model::CLASS_LIMIT;
 use rio_info::info_length_with;
 use rio_machine::Refusal;
 use rio_registry::{Registry, is_reserved_name};
-use rio_types::{ClassDef, Classes};
+use rio_format::{ClassDef, Classes, LENGTH_LIMIT};
 use std::alloc::Global;
-
-/// The most classes of a file.
-const CLASS_LIMIT: usize = 4096;
 
 // The names of classes that come with the format are taken.
 fn check_name(name: &[u8]) -> Result<(), Stop>

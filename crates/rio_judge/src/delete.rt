@@ -5,7 +5,7 @@ ghost use Rattle.rio_machine.specs.State.{State};
 ghost use Rattle.rio_machine.specs.declared.command.Command.{Command};
 ghost use Rattle.rio_step.specs.KeptItems.{AreItemsOfState};
 ghost use Rattle.rio_tree_table.specs.Table.{tree_of};
-ghost use Rattle.rio_types.specs.declared.class.ClassDef.{ClassDef as Class};
+ghost use Rattle.rio_format.specs.declared.class.ClassDef.{ClassDef as Class};
 ghost use Rattle.rio_judge.specs.Judging.{WorkCanBeDone};
 ghost use Rattle.rio_judge.specs.Stops.{GoesByItems, GoesByState, GoesByTree};
 ghost use Rattle.rio_judge.specs.Trees.{AnyWorkCanBeDone, TreeWorkCanBeDone};

@@ -19,7 +19,7 @@ use rio_machine::{Command, Refusal};
 use rio_num::NoMemory;
 use rio_registry::Registry;
 use rio_tree_table::TreeTable;
-use rio_types::Classes;
+use rio_format::Classes;
 use std::alloc::Global;
 
 /// Why the state refuses the command, or what the command is to do. Of several refusals the one of

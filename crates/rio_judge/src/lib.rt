@@ -20,7 +20,6 @@ mod get;
 mod judging;
 mod key;
 mod laws;
-mod limit;
 mod put;
 mod row;
 mod stop;
@@ -35,6 +34,3 @@ pub use work::{
     AnyWork, Judged, JudgedWithTrees, NewClass, NewRow, NewTree, StoredObject, StoredObjects,
     TreeWork, Work,
 };
-
-#[cfg(test)]
-mod tests;

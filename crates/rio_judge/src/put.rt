@@ -15,18 +15,16 @@ ghost use Rattle.rio_judge.specs.Judging.{CanBePut, WorkCanBeDone};
 ghost use Rattle.rio_judge.specs.Stops.{GoesByState, GoesByTests, object_tests};
 
 use crate::key::{check_name, check_no_tree};
-use crate::limit::{CYCLE_LIMIT, DEPTH_LIMIT, ITEM_LIMIT, LENGTH_LIMIT, LIST_LIMIT};
 use crate::stop::Stop;
 use crate::{StoredObject, Work};
 use rio_dir::KeyTable;
 use rio_fit::{can_be_put, fits};
 use rio_key::key_length_of;
-use rio_machine::Refusal;
+use rio_machine::{CYCLE_LIMIT, ITEM_LIMIT, LIST_LIMIT, Refusal};
 use rio_num::{Name, padded};
 use rio_tree_table::TreeTable;
-use rio_types::Classes;
+use rio_format::{Classes, DEPTH_LIMIT, LENGTH_LIMIT, Value, depth, longest_list};
 use rio_valtext::resolved;
-use rio_value::{Value, depth, longest_list};
 use rio_write::written_length;
 use std::alloc::Global;
 

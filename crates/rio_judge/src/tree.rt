@@ -15,24 +15,22 @@ ghost use Rattle.rio_step.specs.Refusing.{first_of, refused_if};
 ghost use Rattle.rio_model.specs.Declaring.{shape_lacks_class};
 ghost use Rattle.rio_tree_table.specs.Table.{tree_of};
 ghost use Rattle.rio_tree_table.specs.declared.table.KeptTree.{KeptTree};
-ghost use Rattle.rio_types.specs.declared.class.ClassDef.{ClassDef as Class};
+ghost use Rattle.rio_format.specs.declared.class.ClassDef.{ClassDef as Class};
 ghost use Rattle.rio_judge.specs.Stops.{GoesByTests, GoesByTree, tree_tests};
 ghost use Rattle.rio_judge.specs.Trees.{TreeWorkCanBeDone};
 
 use crate::key::is_list_name;
-use crate::limit::{BRANCH_LIMIT, CYCLE_LIMIT, ITEM_LIMIT, LEAF_LIMIT};
 use crate::stop::Stop;
 use crate::{NewRow, NewTree, TreeWork};
 use rio_dir::KeyTable;
 use rio_key::KeyHead;
 use rio_leaf::{BranchDef, BranchDefs, Shape};
-use rio_machine::Refusal;
+use rio_machine::{BRANCH_LIMIT, CYCLE_LIMIT, ITEM_LIMIT, LEAF_LIMIT, Refusal};
 use rio_model::built_in_version;
 use rio_num::Name;
 use rio_tree_table::TreeTable;
-use rio_types::{Base, ClassDef, Classes};
+use rio_format::{Base, ClassDef, Classes, Values};
 use rio_valtext::resolved_row;
-use rio_value::Values;
 use std::alloc::Global;
 
 // The key of a tree. The name has no key, or it is that of an object.

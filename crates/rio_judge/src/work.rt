@@ -3,8 +3,7 @@ use rio_key::KeyHead;
 use rio_leaf::BranchDefs;
 use rio_machine::Refusal;
 use rio_num::{Items, Name};
-use rio_types::{Base, ClassDef};
-use rio_value::{Value, Values};
+use rio_format::{Base, ClassDef, Value, Values};
 
 /// An object that is to be stored.
 #[derive(Drop)]

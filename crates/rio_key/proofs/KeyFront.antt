@@ -3,8 +3,7 @@ use Rattle.std.proofs.Common.{◌≡◌, ℕ, ◌+◌, ◌-◌, ◌≤◌, pos, 
 use Rattle.std.proofs.{lemmas.Bool.{ltb-false, le-ltb}, lemmas.List.{take-append-drop}, Math.Seq.{take-append-add}}
 use Rattle.rio_num.specs.{At.{At}, Meanings.{Reading, Standing, read}, Plain.{plain}}
 use Rattle.rio_num.proofs.{ReadLaws.{bind_ok, ok_is}, Plain.{standing, value_ok}, LayoutFront.{AreFields, front_again}}
-use Rattle.rio_key.specs.{Key.{key_at, key_fields, key_head_at, key_layout}, Laws.{KeyFromFront, KeyInFront}, declared.head.KeyHead.{KeyHead}}
-use Rattle.rio_key.specs.declared.fault.KeyFault.{KeyFault, TheVariants.{BadLength, BadKeyLen}}
+use Rattle.rio_key.specs.{Key.{key_at, key_fields, key_head_at, key_layout}, Laws.{KeyFromFront, KeyInFront}, declared.head.KeyHead.{KeyHead}, declared.fault.KeyFault.{KeyFault, TheVariants.{BadLength, BadKeyLen}}}
 
 abbrev pub Read : Type 0
 Read = Reading (Unit {0}) KeyFault KeyHead

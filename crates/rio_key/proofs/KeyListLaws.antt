@@ -7,8 +7,7 @@ use Rattle.rio_num.specs.Plain.{IsSpelledIn, plain, value_of}
 use Rattle.rio_num.proofs.Agree as Agree
 use Rattle.rio_num.proofs.{Intro.{IsSo, both_are, done_is, ends_with, here_then, number_then}, Retold.{retold_spelled, told_before}, Apart.{here_of}}
 use Rattle.rio_num.proofs.{Plain.{spelled_again, standing}, Moves.{IsFound, Moves, found, moves_behind, moves_number, moves_times}}
-use Rattle.rio_key.specs.Key.{SpellsKey, key_layout}
-use Rattle.rio_key.specs.KeyList.{BreaksKeyList, SpellsKeyList, listed_fault, key_list_at, key_list_layout, list_memory, listed_key}
+use Rattle.rio_key.specs.{Key.{SpellsKey, key_layout}, KeyList.{BreaksKeyList, SpellsKeyList, listed_fault, key_list_at, key_list_layout, list_memory, listed_key}}
 use Rattle.rio_key.specs.{declared.head.KeyHead.{KeyHead}, declared.fault.ListFault.{ListFault}}
 use Rattle.rio_key.proofs.{KeyParts.{key_moves}, KeyRead.{value_given}}
 

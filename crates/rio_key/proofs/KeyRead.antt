@@ -3,8 +3,7 @@ use Rattle.std.proofs.Common.{◌≡◌, ℕ, List, ◌++◌, Result, Ok, Err, a
 use Rattle.std.specs.Prelude.{IfOk}
 use Rattle.rio_num.specs.{Answers.{GivesUnless, ReadsUnless, TellsUnless}, At.{At, AreBytes}, Plain.{IsSpelledIn, plain, value_of}}
 use Rattle.rio_num.proofs.Agree as Agree
-use Rattle.rio_key.specs.{Key.{BreaksKey, SpellsKey, key_head_at, key_layout}, declared.head.KeyHead.{KeyHead}}
-use Rattle.rio_key.specs.declared.fault.KeyFault.{KeyFault, TheVariants.{NoMemory}}
+use Rattle.rio_key.specs.{Key.{BreaksKey, SpellsKey, key_head_at, key_layout}, declared.head.KeyHead.{KeyHead}, declared.fault.KeyFault.{KeyFault, TheVariants.{NoMemory}}}
 use Rattle.rio_num.proofs.Plain.{standing}
 use Rattle.rio_key.proofs.KeyAgain.{key_again, key_found}
 

@@ -1,5 +1,10 @@
+pub mod BasketExamples
 pub mod BasketFrontLaws
 pub mod BasketHeadLaws
+pub mod CutAll
+pub mod CutLaws
+pub mod HeldLaws
+pub mod JoinedLaws
 pub mod KeyAgain
 pub mod KeyFront
 pub mod KeyLaws
@@ -8,5 +13,14 @@ pub mod KeyParts
 pub mod KeyRead
 pub mod KeyRecord
 pub mod KeyWritten
+pub mod LaidLaws
+pub mod OffsetLaws
+pub mod OpenLaws
+pub mod PlaceLaws
+pub mod PutLaws
+pub mod ReadEqual
+pub mod ReadOffsets
+pub mod RecordMade
 pub mod Retold
 pub mod Signed
+pub mod WrittenBaskets

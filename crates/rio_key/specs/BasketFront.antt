@@ -1,8 +1,7 @@
 -- The key of a basket, and the basket's head within it.
 use Rattle.std.specs.Prelude.{ℕ, ◌+◌, nat_lt}
 use Rattle.rio_num.specs.{Layout.{done, broken, number, here, ◌>>=◌, when◌then◌else◌}, Plain.{Plain}}
-use Rattle.rio_key.specs.{BasketHead.{basket_head_of}, Key.{key_layout}, declared.basket_head.BasketFront.{BasketFront}}
-use Rattle.rio_key.specs.declared.fault.KeyFault.{KeyFault, TheVariants.{Short}}
+use Rattle.rio_key.specs.{BasketHead.{basket_head_of}, Key.{key_layout}, declared.basket_head.BasketFront.{BasketFront}, declared.fault.KeyFault.{KeyFault, TheVariants.{Short}}}
 
 -- a number of so many bytes, none of them behind the end
 abbrev pub number_within : ℕ → ℕ → Plain KeyFault ℕ

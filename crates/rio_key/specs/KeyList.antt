@@ -1,8 +1,7 @@
 -- A list of key heads: their count, and so many heads, one behind the other.
 use Rattle.std.specs.Prelude.{ℕ, List, Option, Some, None}
 use Rattle.rio_num.specs.{At.{At}, Layout.{number, here, times, retold, ◌>>=◌}, Meanings.{Reading, read, Breaks}, Plain.{IsSpelledBy, Plain, plain}}
-use Rattle.rio_key.specs.{Key.{key_layout}, declared.head.KeyHead.{KeyHead}, declared.fault.KeyFault.{KeyFault, TheVariants.{Short, NoMemory}}}
-use Rattle.rio_key.specs.declared.fault.ListFault.{ListFault}
+use Rattle.rio_key.specs.{Key.{key_layout}, declared.head.KeyHead.{KeyHead}, declared.fault.KeyFault.{KeyFault, TheVariants.{Short, NoMemory}}, declared.fault.ListFault.{ListFault}}
 
 -- a fault of the list, in the head at a place or in the count
 abbrev pub listed_fault : Option ℕ → KeyFault → ListFault

@@ -1,6 +1,14 @@
+pub mod BasketEntries
 pub mod BasketFront
 pub mod BasketHead
+pub mod BasketLaws
+pub mod BasketRecord
+pub mod BasketTexts
+pub mod Cut
 pub mod Key
 pub mod KeyList
+pub mod LaidBasket
 pub mod Laws
+pub mod OpenBasket
+pub mod StoredLayout
 pub mod Written

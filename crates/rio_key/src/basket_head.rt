@@ -2,12 +2,10 @@
 ghost use Rattle.std.specs.Prelude.{◌≡◌, ◌+◌, ◌<◌, ◌≤◌, ◌^◌, ◌++◌, ℕ, List, length, take, Ok, IfErr, IfOk, OnOk, OnErr};
 ghost use Rattle.rio_num.specs.Answers.{GivesUnless};
 ghost use Rattle.rio_num.specs.Room.{with_more};
-ghost use Rattle.rio_key.specs.BasketFront.{basket_front, number_within};
-ghost use Rattle.rio_key.specs.BasketHead.{AreInRange, BreaksBasketHead, basket_head_at, basket_head_bytes, basket_head_of, integer_bytes, sizes_bytes};
+ghost use Rattle.rio_key.specs.{BasketFront.{basket_front, number_within}, BasketHead.{AreInRange, BreaksBasketHead, basket_head_at, basket_head_bytes, basket_head_of, integer_bytes, sizes_bytes}};
 ghost use Rattle.rio_num.specs.Meanings.{read};
 ghost use Rattle.rio_num.specs.Plain.{plain, value_of};
-ghost use Rattle.rio_key.specs.declared.fault.KeyFault.TheVariants.{NoMemory as OutOfMemory};
-ghost use Rattle.rio_key.specs.declared.basket_head.BasketHead.{BasketHead as Head};
+ghost use Rattle.rio_key.specs.{declared.fault.KeyFault.TheVariants.{NoMemory as OutOfMemory}, declared.basket_head.BasketHead.{BasketHead as Head}};
 
 use crate::read::take_key;
 use crate::{KeyFault, KeyHead};

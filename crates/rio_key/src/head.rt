@@ -4,6 +4,9 @@ ghost use Rattle.rio_key.specs.Key.{is_compressed};
 
 use rio_num::{Name, NoMemory, bytes_from};
 
+/// Where the first record of a file stands, which is that of its top directory.
+pub const FIRST_PLACE: u64 = 100;
+
 /// The head of a record.
 #[derive(Debug, PartialEq, Drop)]
 pub struct KeyHead {

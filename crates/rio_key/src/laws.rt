@@ -1,12 +1,7 @@
 //! Laws of keys: how reading, spelling and first faults belong together, and that there is one key at a place.
 ghost use Rattle.rio_num.specs.Laws.{Agrees};
-ghost use Rattle.rio_key.specs.BasketFront.{basket_front};
-ghost use Rattle.rio_key.specs.BasketHead.{basket_head_layout};
+ghost use Rattle.rio_key.specs.{BasketFront.{basket_front}, BasketHead.{basket_head_layout}, Laws.{KeyFromFront, KeyInFront}, Key.{SpellsKey, key_layout}, KeyList.{SpellsKeyList, key_list_layout}, Written.{WrittenKeyIsSpelled}};
 ghost use Rattle.rio_num.specs.Plain.{IsOne};
-ghost use Rattle.rio_key.specs.Laws.{KeyFromFront, KeyInFront};
-ghost use Rattle.rio_key.specs.Key.{SpellsKey, key_layout};
-ghost use Rattle.rio_key.specs.KeyList.{SpellsKeyList, key_list_layout};
-ghost use Rattle.rio_key.specs.Written.{WrittenKeyIsSpelled};
 
 /// What is spelled is read, what breaks gives the fault, what is read is spelled, and what fails is broken: so it is with
 /// keys, with lists of their heads, with the heads of baskets, and with the keys that have one.

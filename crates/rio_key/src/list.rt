@@ -1,11 +1,10 @@
 //! Lists of key heads are read.
 ghost use Rattle.std.specs.Prelude.{◌≡◌, ◌+◌, ◌<◌, ◌^◌, ◌++◌, ℕ, List, Ok, length, IfOk};
-ghost use Rattle.rio_key.specs.declared.head.KeyHead.{KeyHead as Head};
+ghost use Rattle.rio_key.specs.{declared.head.KeyHead.{KeyHead as Head}, KeyList.{BreaksKeyList, SpellsKeyList, head_count, key_list_at, list_memory, listed_key}};
 ghost use Rattle.rio_num.specs.Answers.{GivesUnless, ReadsUnless, TellsUnless};
 ghost use Rattle.rio_num.specs.Layout.{times};
 ghost use Rattle.rio_num.specs.Meanings.{read};
 ghost use Rattle.rio_num.specs.Plain.{IsSpelledIn, plain, value_of};
-ghost use Rattle.rio_key.specs.KeyList.{BreaksKeyList, SpellsKeyList, head_count, key_list_at, list_memory, listed_key};
 
 use crate::read::take_key;
 use crate::{KeyFault, KeyHead, ListFault};

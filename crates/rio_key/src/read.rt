@@ -5,8 +5,7 @@ ghost use Rattle.rio_num.specs.At.{GoesOn, place_len_of, standing_at};
 ghost use Rattle.rio_num.specs.Reading.{Takes, number_at};
 ghost use Rattle.rio_num.specs.Meanings.{read};
 ghost use Rattle.rio_num.specs.Plain.{IsSpelledIn, plain};
-ghost use Rattle.rio_key.specs.Key.{BreaksKey, SpellsKey, key_at, key_fields, key_head_at};
-ghost use Rattle.rio_key.specs.declared.fault.KeyFault.TheVariants.{NoMemory as OutOfMemory};
+ghost use Rattle.rio_key.specs.{Key.{BreaksKey, SpellsKey, key_at, key_fields, key_head_at}, declared.fault.KeyFault.TheVariants.{NoMemory as OutOfMemory}};
 
 use crate::{KeyFault, KeyHead};
 use rio_num::{Cursor, Name, Short};

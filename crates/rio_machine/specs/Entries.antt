@@ -4,11 +4,9 @@ use Rattle.std.specs.{Map.{lookup}, Str.{bytes_eq}}
 use Rattle.rio_leaf.specs.declared.branch.Shape.{Shape}
 use Rattle.rio_leaf.specs.declared.leaf.Dim.{Dim, TheVariants.{Counted}}
 use Rattle.rio_num.specs.{Layout.{done, ◌>>=◌}, Meanings.{read}}
-use Rattle.rio_buffer.specs.{Frames.{ObjLayout, Step}, ReaderState.{no_words, standing}}
-use Rattle.rio_buffer.specs.declared.fault.ObjFault.{ObjFault, TheVariants.{Short, BadCount, UnknownClassWord, UnknownRef, NoCount, BadFlag, CountMismatch, TooDeep, NoMemory}}
-use Rattle.rio_format.specs.{Bodies.{Counters}, Objects.{depth_limit, kind_value, object_of}}
-use Rattle.rio_value.specs.{Accessors.{number_in}, declared.value.Value.{Value, out-Value}}
-use Rattle.rio_types.specs.declared.class.ClassDef.{ClassDef}
+use Rattle.rio_format.specs.{Frames.{ObjLayout, Step}, ReaderState.{no_words, standing}}
+use Rattle.rio_format.specs.declared.fault.ObjFault.{ObjFault, TheVariants.{Short, BadCount, UnknownClassWord, UnknownRef, NoCount, BadFlag, CountMismatch, TooDeep, NoMemory}}
+use Rattle.rio_format.specs.{Bodies.{Counters}, Objects.{depth_limit, kind_value, object_of}, Accessors.{number_in}, declared.value.Value.{Value, out-Value}, declared.class.ClassDef.{ClassDef}}
 use Rattle.rio_machine.specs.Rows.{Column, leaf_column, object_column, leaf_kind, leaf_numbers_behind, shape_columns}
 use Rattle.rio_machine.specs.declared.entry_fault.EntryFault.{EntryFault, TheVariants.{BadEntry, NoMemory as OutOfMemory}}
 

@@ -3,9 +3,7 @@ use Rattle.std.specs.{Prelude.{ℕ, ◌+◌, List, [], length, Bool, false, ◌|
 use Rattle.rio_key.specs.Written.{key_length_of}
 pub use Rattle.rio_num.specs.Padding.{zeros_behind}
 use Rattle.rio_leaf.specs.{declared.branch.BranchDef.{BranchDef}, declared.branch.Shape.{Shape, TheVariants.{Leaves, Class}}}
-use Rattle.rio_format.specs.{Objects.{depth_limit}, Written.{written_form}, WrittenBytes.{length_limit}}
-use Rattle.rio_types.specs.declared.class.ClassDef.{ClassDef}
-use Rattle.rio_value.specs.{Depth.{depth_of}, LongestList.{longest_list_of}, declared.value.Value.{Value}}
+use Rattle.rio_format.specs.{Objects.{depth_limit}, Written.{written_form}, WrittenBytes.{length_limit}, declared.class.ClassDef.{ClassDef}, Depth.{depth_of}, LongestList.{longest_list_of}, declared.value.Value.{Value}}
 use Rattle.rio_machine.specs.{Rows.{entries_of}, State.{State, item_count}}
 
 -- the greatest cycle that a command gives, and the greatest that a tree may have to be filled or saved is one less

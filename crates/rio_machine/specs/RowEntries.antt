@@ -2,10 +2,8 @@
 use Rattle.std.specs.Prelude.{ℕ, ℤ, pos, List, [], ◌∷◌, ◌++◌, map, Option, Result, Ok, unwrap_or, option_and_then}
 use Rattle.std.specs.{Map.{lookup}, Result.{result_ok}, Str.{bytes_eq}}
 use Rattle.rio_leaf.specs.{declared.branch.BranchDef.{BranchDef}, declared.leaf.Dim.{Dim, TheVariants.{Counted}}}
-use Rattle.rio_format.specs.Bodies.{Counters}
+use Rattle.rio_format.specs.{Bodies.{Counters}, declared.value.Value.{Value, Int}, declared.class.ClassDef.{ClassDef}}
 use Rattle.rio_num.specs.Reading.{◌>>=◌, some_if}
-use Rattle.rio_value.specs.declared.value.Value.{Value, Int}
-use Rattle.rio_types.specs.declared.class.ClassDef.{ClassDef}
 use Rattle.rio_machine.specs.{Entries.{entry_in}, Rows.{Column, leaf_column, object_column, leaf_numbers_after, row_fits, shape_columns}, State.{Row}}
 use Rattle.rio_machine.specs.declared.entry_fault.EntryFault.{EntryFault}
 

@@ -3,11 +3,9 @@ use Rattle.std.specs.Prelude.{ℕ, ◌*◌, ℤ, pos, List, [], ◌∷◌, ◌++
 use Rattle.std.specs.{List.{flat_map}, Map.{lookup}, Str.{bytes_eq}}
 use Rattle.rio_leaf.specs.{declared.branch.BranchDef.{BranchDef}, declared.branch.Shape.{Shape, TheVariants.{Leaves, Class}}}
 use Rattle.rio_leaf.specs.{declared.leaf.Dim.{Dim, TheVariants.{One, Fixed as Several, Counted}}, declared.leaf.Leaf.{Leaf}}
-use Rattle.rio_buffer.specs.ReaderState.{no_words}
-use Rattle.rio_format.specs.{Bodies.{Counters}, Fits.{fitting_of}, Slots.{Slot, kinded}, Written.{writing_of}}
-use Rattle.rio_value.specs.{Accessors.{number_in}, declared.value.Value.{Value, out-Value}}
-use Rattle.rio_types.specs.{declared.class.ClassDef.{ClassDef}, declared.kind.Kind.{Kind, TheVariants.{Plain, Fixed, Text, Inline, Other}}}
-use Rattle.rio_types.specs.declared.kind.Primitive.{Primitive, TheVariants.{I8, I16, I32, I64, U8, U16, U32, U64, Bool as Truth, F32, F64}}
+use Rattle.rio_format.specs.{ReaderState.{no_words}, Bodies.{Counters}, Fits.{fitting_of}, Slots.{Slot, kinded}, Written.{writing_of}, Accessors.{number_in}, declared.value.Value.{Value, out-Value}}
+use Rattle.rio_format.specs.{declared.class.ClassDef.{ClassDef}, declared.kind.Kind.{Kind, TheVariants.{Plain, Fixed, Text, Inline, Other}}}
+use Rattle.rio_format.specs.declared.kind.Primitive.{Primitive, TheVariants.{I8, I16, I32, I64, U8, U16, U32, U64, Bool as Truth, F32, F64}}
 
 -- ---- leaves
 

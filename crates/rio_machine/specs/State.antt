@@ -4,8 +4,7 @@ use Rattle.std.specs.{FinMap.{FinMap, IsAntisymmetric, contains_key, empty, get,
 use Rattle.std.specs.declared.cmp.Ordering.{Ordering}
 use Rattle.rio_num.specs.Word.{name_order}
 use Rattle.rio_leaf.specs.declared.branch.BranchDef.{BranchDef}
-use Rattle.rio_types.specs.declared.class.ClassDef.{ClassDef}
-use Rattle.rio_value.specs.{Depth.{greatest}, declared.value.Value.{Value}}
+use Rattle.rio_format.specs.{declared.class.ClassDef.{ClassDef}, Depth.{greatest}, declared.value.Value.{Value}}
 
 -- ---- orders
 

@@ -1,9 +1,8 @@
 //! The commands of a script, and what became of one.
 use crate::Refusal;
+use rio_format::{Base, ClassDef, Value, Values};
 use rio_leaf::BranchDefs;
 use rio_num::{Items, Name};
-use rio_types::{Base, ClassDef};
-use rio_value::{Value, Values};
 
 /// A command. An object of a value in a command may have the version 0, which stands for the newest, and in a base for
 /// the one that the class has it in.

@@ -1,5 +1,5 @@
 //! Why there is no entry.
-use rio_buffer::ObjFault;
+use rio_format::ObjFault;
 use rio_num::NoMemory;
 use thiserror::Error;
 

@@ -11,11 +11,13 @@
 mod command;
 mod entry_fault;
 mod laws;
+mod limits;
 mod print;
 mod refusal;
 
 pub use command::{Command, Commands, Outcome, PutItem, Puts};
 pub use entry_fault::EntryFault;
 pub use laws::orders_are_total;
+pub use limits::{BATCH_LIMIT, BRANCH_LIMIT, CYCLE_LIMIT, ITEM_LIMIT, LEAF_LIMIT, LIST_LIMIT};
 pub use print::print_refusal;
 pub use refusal::Refusal;

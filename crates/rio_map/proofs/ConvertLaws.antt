@@ -1,8 +1,7 @@
 -- What converts a value is what the code does: of the value alone, or of what is had of it.
 use Rattle.std.proofs.Common.{◌≡◌, ◌==◌, ◌&&◌, Bool, true, false, Option, Some, None, Ok, if◌then◌else◌, refl}
 use Rattle.std.specs.{Option.{option_map}, Str.{bytes_eq}}
-use Rattle.rio_types.specs.declared.kind.Kind.{Kind, TheVariants.{Plain, Counter, Fixed, Counted, Text, Inline, Pointer, Other}}
-use Rattle.rio_value.specs.declared.value.Value.{Value, out-Value}
+use Rattle.rio_format.specs.{declared.kind.Kind.{Kind, TheVariants.{Plain, Counter, Fixed, Counted, Text, Inline, Pointer, Other}}, declared.value.Value.{Value, out-Value}}
 use Rattle.rio_model.specs.Mapping.{Mapped, Mapping, convert, is_list_of, is_object_value, is_pointer_value, is_text_value, list_as}
 use Rattle.rio_map.specs.Converting.{flat_as, stays}
 

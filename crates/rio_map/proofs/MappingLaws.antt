@@ -2,11 +2,8 @@
 use Rattle.std.proofs.Common.{◌≡◌, ◌==◌, ◌&&◌, ℕ, ℤ, List, [], ◌∷◌, length, map, Bool, true, false, cond, Option, Some, None, Ok, Err, if◌then◌else◌, refl, ap, ◌∙◌}
 use Rattle.std.specs.{Prelude.{find}, Option.{option_and_then, option_map}, Str.{bytes_eq}}
 use Rattle.rio_num.specs.Reading.{◌>>=◌}
-use Rattle.rio_types.specs.declared.class.{Base.{Base}, ClassDef.{ClassDef}, Member.{Member}}
-use Rattle.rio_types.specs.declared.kind.Kind.{Kind}
-use Rattle.rio_value.specs.declared.value.Part.{Part, Part-F}
-use Rattle.rio_value.specs.declared.value.Value.{Value, List as Items, Object, Pointed, out-Value, TheOpen.{Value-F}, TheFolds.{fold-Part, fold_out-Part}}
-use Rattle.rio_format.specs.Bodies.{part}
+use Rattle.rio_format.specs.{declared.class.Base.{Base}, declared.class.ClassDef.{ClassDef}, declared.class.Member.{Member}, declared.kind.Kind.{Kind}, declared.value.Part.{Part, Part-F}}
+use Rattle.rio_format.specs.{declared.value.Value.{Value, List as Items, Object, Pointed, out-Value, TheOpen.{Value-F}, TheFolds.{fold-Part, fold_out-Part}}, Bodies.{part}}
 use Rattle.rio_format.proofs.ValueCases.{Each, by_cases, fold_Int, fold_Bits32, fold_Bits64, fold_Bool, fold_Text, fold_List, fold_Object, fold_Pointed, fold_Null, fold_Back, fold_Opaque}
 use Rattle.rio_model.specs.Mapping.{Mapped, Mapping, PartMapping, base_mapped, base_part_of, class_named, convert, flat_mapped, items_mapped, kind_zero, mapping_step, member_mapped, member_part_of, object_as, or_changed, part_mapping, whole_part, zero_of_class}
 use Rattle.rio_map.specs.Converting.{flat_as, stays}

@@ -3,9 +3,7 @@ use Rattle.std.proofs.Common.{◌≡◌, ◌&&◌, ◌||◌, ◌==◌, ℕ, List
 use Rattle.std.proofs.lemmas.{Bool.{and_parts, not-true}, Slice.Eq.{bytes_eq-Decides}}
 use Rattle.std.specs.{Prelude.{find}, List.{list_any}, Option.{option_map}, Str.{bytes_eq}}
 use Rattle.rio_num.specs.{Reading.{◌>>=◌}, Word.{is_name_text}}
-use Rattle.rio_types.specs.declared.class.{Base.{Base}, ClassDef.{ClassDef}, Member.{Member}}
-use Rattle.rio_value.specs.declared.{value.Part.{Part}, value.Value.{Value, out-Value}}
-use Rattle.rio_format.specs.Bodies.{part}
+use Rattle.rio_format.specs.{declared.class.Base.{Base}, declared.class.ClassDef.{ClassDef}, declared.class.Member.{Member}, declared.value.Part.{Part}, declared.value.Value.{Value, out-Value}, Bodies.{part}}
 use Rattle.rio_model.specs.Mapping.{Mapped, base_mapped, base_part_of, class_named, each_mapped, member_mapped, member_part_of}
 use Rattle.rio_model.specs.{ClassGrammar.{has_base_named, has_member}, Stated.{are_stated_bases, are_stated_members, is_stated_base, is_stated_member}}
 use Rattle.rio_map.specs.Versions.{base_found, converted, found_of_kind, has_base, if_there, is_base_part, kind_in, mapped_in, mapping_of_part, member_found}

@@ -4,10 +4,8 @@ use Rattle.std.proofs.lemmas.{Bool.{and_parts, Decides.{Decides-int_eq}}, Option
 use Rattle.std.specs.{List.{list_all}, Option.{option_map_or}, Ordering.{int_eq}, Str.{bytes_eq}}
 use Rattle.rio_num.specs.Reading.{◌>>=◌}
 use Rattle.rio_num.proofs.Cases.{some_of}
-use Rattle.rio_types.specs.{Classes.{find_in}, declared.class.{Base.{Base}, ClassDef.{ClassDef}, Member.{Member}}}
-use Rattle.rio_types.specs.declared.kind.Kind.TheVariants.{Plain, Fixed, Text as Texted, Inline}
-use Rattle.rio_value.specs.declared.value.Part.{Part}
-use Rattle.rio_value.specs.declared.value.Value.{Value, List as Items, Object, Pointed, TheFolds.{fold-Part, fold_out-Part}}
+use Rattle.rio_format.specs.{Classes.{find_in}, declared.class.Base.{Base}, declared.class.ClassDef.{ClassDef}, declared.class.Member.{Member}, declared.kind.Kind.TheVariants.{Plain, Fixed, Text as Texted, Inline}}
+use Rattle.rio_format.specs.{declared.value.Part.{Part}, declared.value.Value.{Value, List as Items, Object, Pointed, TheFolds.{fold-Part, fold_out-Part}}}
 use Rattle.rio_format.specs.{Bodies.{Counters, part}, Fits.{Fitting, Labels, all_fit, counted_slot, counted_so_far, fields_fit, fitting_of, fitting_step, link_fits, list_fits, may_point, object_may_stand, parts_fit, pointed_fits}}
 use Rattle.rio_format.specs.Slots.{Field, Slot, any_pointer, base_field, based, fields_of, kinded, link, many, member_field}
 use Rattle.rio_format.proofs.{Tests.{named_as}, WrittenLists.{fittings}, WrittenValues.{fit_object}}

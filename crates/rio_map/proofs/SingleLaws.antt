@@ -2,11 +2,10 @@
 use Rattle.std.proofs.Common.{◌≡◌, ◌==◌, ◌&&◌, ℕ, ℤ, pos, negsuc, Bool, true, false, cond, List, [], ◌∷◌, ◌++◌, length, map, Option, Some, None, Ok, if◌then◌else◌, refl, sym, ap, subst, ◌∙◌, arith, rules}
 use Rattle.std.proofs.lemmas.{Bool.{and_parts, Decides.{nat_tests}}, Int.{int_wrap_fits, ints}, List.{length-map}, Option.{option_and_then_some}, Slice.Eq.{bytes_eq-Decides}}
 use Rattle.std.specs.{Prelude.{FitsSigned, slice_get}, Int.{int_rem_euclid, int_wrap, w8, w16, w32, w64}, Map.{lookup}, Ordering.{int_eq}, Str.{bytes_eq}}
-use Rattle.rio_types.specs.declared.{class.ClassDef.{ClassDef}, kind.Kind.{Kind, TheVariants.{Plain, Counter, Fixed, Counted, Text as Texted, Inline, Pointer, Other}}}
-use Rattle.rio_types.specs.declared.kind.Primitive.{Primitive, TheVariants.{I8, I16, I32, I64, U8, U16, U32, U64, Bool as Boolean, F32, F64}}
-use Rattle.rio_value.specs.declared.value.Part.{Part}
-use Rattle.rio_value.specs.declared.value.Value.{Value, Int, Bits32, Bits64, Bool as Truth, Text, List as Items, Object, Pointed, Null, Back, Opaque, out-Value, out-roll-Value, TheVariants.{rolls-Bits32, rolls-Bits64, rolls-Bool, rolls-List}, TheOpen.{Value-F}, TheFolds.{fold_out-Value}}
-use Rattle.rio_value.specs.declared.value.Value.TheOpen as layer
+use Rattle.rio_format.specs.{declared.class.ClassDef.{ClassDef}, declared.kind.Kind.{Kind, TheVariants.{Plain, Counter, Fixed, Counted, Text as Texted, Inline, Pointer, Other}}}
+use Rattle.rio_format.specs.{declared.kind.Primitive.{Primitive, TheVariants.{I8, I16, I32, I64, U8, U16, U32, U64, Bool as Boolean, F32, F64}}, declared.value.Part.{Part}}
+use Rattle.rio_format.specs.declared.value.Value.{Value, Int, Bits32, Bits64, Bool as Truth, Text, List as Items, Object, Pointed, Null, Back, Opaque, out-Value, out-roll-Value, TheVariants.{rolls-Bits32, rolls-Bits64, rolls-Bool, rolls-List}, TheOpen.{Value-F}, TheFolds.{fold_out-Value}}
+use Rattle.rio_format.specs.declared.value.Value.TheOpen as layer
 use Rattle.rio_format.specs.{Bodies.{Counters}, Fits.{Fitting, Labels, all_fit, back_fits, bits32_fits, bits64_fits, counted_slot, fits_prim, fits_signed, fits_unsigned, fitting_of, fitting_step, fixed_by, int_fits, may_point, pass, pointed_fits, truth_fits}}
 use Rattle.rio_format.specs.Slots.{Slot, kinded, based}
 use Rattle.rio_format.proofs.{ValueCases.{by_cases, fold_Int, fold_Bits32, fold_Bits64, fold_Bool, fold_Text, fold_List, fold_Object, fold_Pointed, fold_Null, fold_Back, fold_Opaque, out_int}, WrittenPointers.{fit_layer}}

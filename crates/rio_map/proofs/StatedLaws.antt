@@ -2,10 +2,8 @@
 use Rattle.std.proofs.Common.{◌≡◌, ◌&&◌, ℕ, ℤ, List, [], ◌∷◌, ◌++◌, Bool, true, false, cond, not, Option, Some, None, refl, sym, ap, subst, ◌∙◌}
 use Rattle.std.proofs.lemmas.{Bool.{and_parts}, Slice.Eq.{bytes_eq-Decides}}
 use Rattle.std.specs.{Option.{option_map}, Ordering.{int_eq}, Str.{bytes_eq}}
-use Rattle.rio_types.specs.{Classes.{find_in}, declared.class.ClassDef.{ClassDef}}
-use Rattle.rio_format.specs.Bodies.{Body, built_in, by_name, described, form_of, headed_classes, headless_classes, own_body, row_of}
-use Rattle.rio_format.specs.{declared.built_in.BuiltIn.{BuiltIn}, declared.form.Form.TheVariants.{Headed as headed}}
-use Rattle.rio_format.specs.Slots.{body_fields, described_fields, fields_of, form_fields}
+use Rattle.rio_format.specs.{Classes.{find_in}, declared.class.ClassDef.{ClassDef}, Bodies.{Body, built_in, by_name, described, form_of, headed_classes, headless_classes, own_body, row_of}}
+use Rattle.rio_format.specs.{declared.built_in.BuiltIn.{BuiltIn}, declared.form.Form.TheVariants.{Headed as headed}, Slots.{body_fields, described_fields, fields_of, form_fields}}
 use Rattle.rio_format.proofs.{ValueCases.{Each}, WrittenObjects.{declared_from}}
 use Rattle.rio_model.specs.{Declaring.{is_reserved_name}, StateClasses.{AreAccepted, IsDeclared}, Stated.{has_stated_parts, is_stated_class}}
 

@@ -2,9 +2,7 @@
 use Rattle.std.proofs.Common.{◌≡◌, ℕ, ◌+◌, List, [], ◌∷◌, ◌++◌, drop, Option, Some, None, slice_get, sym, ap, refl, ◌∙◌, append_assoc}
 use Rattle.std.proofs.lemmas.List.{append-nil}
 use Rattle.std.specs.{Prelude.{option_and_then}, Option.{option_map}}
-use Rattle.rio_value.specs.declared.value.Part.{Part}
-use Rattle.rio_value.specs.declared.value.Value.{Value}
-use Rattle.rio_format.specs.{Bodies.{part}, Slots.{Field}}
+use Rattle.rio_format.specs.{declared.value.Part.{Part}, declared.value.Value.{Value}, Bodies.{part}, Slots.{Field}}
 use Rattle.rio_format.proofs.FieldLaws.{found_first, none_left}
 use Rattle.rio_model.specs.Mapping.{parts_zero, slot_zero}
 

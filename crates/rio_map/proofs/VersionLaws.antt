@@ -3,8 +3,7 @@ use Rattle.std.proofs.Common.{◌≡◌, ◌&&◌, ℕ, ℤ, List, [], ◌∷◌
 use Rattle.std.proofs.lemmas.{Bool.{and_parts}, Bool.Decides.{Decides-int_eq}, Slice.Eq.{bytes_eq-Decides}}
 use Rattle.std.specs.{Option.{option_map_or}, Ordering.{int_eq}, Str.{bytes_eq}}
 use Rattle.rio_num.specs.Reading.{◌>>=◌}
-use Rattle.rio_types.specs.{Classes.{find_in}, declared.class.{Base.{Base}, ClassDef.{ClassDef}}}
-use Rattle.rio_value.specs.{declared.value.Part.{Part}, declared.value.Value.{Value}}
+use Rattle.rio_format.specs.{Classes.{find_in}, declared.class.Base.{Base}, declared.class.ClassDef.{ClassDef}, declared.value.Part.{Part}, declared.value.Value.{Value}}
 use Rattle.rio_model.specs.Mapping.{Asked, Mapped, PartMapping, after_bases, as_version, described_bases, described_members, in_description, mapping_of, object_mapped}
 use Rattle.rio_model.specs.Resolving.{built_in_version}
 use Rattle.rio_map.specs.Versions.{bases_as, behind, is_nameless, mapped_in, mapping_of_part, members_as}

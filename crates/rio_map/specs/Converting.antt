@@ -2,9 +2,8 @@
 -- objects in it in their version.
 use Rattle.std.specs.Prelude.{ℕ, List, Bool, false, ◌==◌, ◌&&◌, Option, Some, None, if◌then◌else◌}
 use Rattle.std.specs.Str.{bytes_eq}
-use Rattle.rio_types.specs.declared.kind.Kind.{Kind, TheVariants.{Plain, Counter, Fixed, Counted, Text, Inline, Pointer, Other}}
-use Rattle.rio_types.specs.declared.kind.Primitive.{Primitive, TheVariants.{I32}}
-use Rattle.rio_value.specs.declared.value.Value.{Value, out-Value}
+use Rattle.rio_format.specs.{declared.kind.Kind.{Kind, TheVariants.{Plain, Counter, Fixed, Counted, Text, Inline, Pointer, Other}}, declared.kind.Primitive.{Primitive, TheVariants.{I32}}}
+use Rattle.rio_format.specs.declared.value.Value.{Value, out-Value}
 use Rattle.rio_model.specs.Mapping.{is_list_of, is_object_value, is_pointer_value, is_text_value, list_as, single_as}
 
 -- ---- of the value alone

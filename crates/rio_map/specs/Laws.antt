@@ -1,9 +1,8 @@
 -- Laws of objects in another version.
 use Rattle.std.specs.Prelude.{◌≡◌, ℕ, ℤ, List, Bool, true, ◌&&◌, ◌||◌, not, IsTrue, Ok}
 use Rattle.std.specs.{List.{list_all}, Ordering.{int_eq}, Str.{bytes_eq}}
-use Rattle.rio_types.specs.declared.class.ClassDef.{ClassDef}
-use Rattle.rio_value.specs.declared.value.Value.{Value, TheOpen.{Value-F, Int, Bits32, Bits64, Bool as Truth, Text, List as Items, Object, Pointed, Null, Back, Opaque}, TheFolds.{fold-Value}}
-use Rattle.rio_format.specs.Fits.{Fits}
+use Rattle.rio_format.specs.declared.class.ClassDef.{ClassDef}
+use Rattle.rio_format.specs.{declared.value.Value.{Value, TheOpen.{Value-F, Int, Bits32, Bits64, Bool as Truth, Text, List as Items, Object, Pointed, Null, Back, Opaque}, TheFolds.{fold-Value}}, Fits.{Fits}}
 use Rattle.rio_model.specs.{Mapping.{as_version}, Resolving.{is_known_version}, StateClasses.{StateClasses}}
 
 -- one layer of a value, with what is known of each child in its place

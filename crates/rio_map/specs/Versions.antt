@@ -3,10 +3,7 @@
 use Rattle.std.specs.Prelude.{ℕ, List, [], ◌++◌, length, slice_get, Bool, false, ◌==◌, ◌&&◌, Option, Some, None, Result, Ok, find, if◌then◌else◌}
 use Rattle.std.specs.{List.{list_any}, Option.{option_map, option_map_or}, Str.{bytes_eq}}
 use Rattle.rio_num.specs.{Answers.{GivesUnless}, Reading.{◌>>=◌}}
-use Rattle.rio_types.specs.declared.class.{Base.{Base}, ClassDef.{ClassDef}, Member.{Member}}
-use Rattle.rio_types.specs.declared.kind.Kind.{Kind}
-use Rattle.rio_value.specs.declared.value.Part.{Part}
-use Rattle.rio_value.specs.declared.value.Value.{Value, out-Value}
+use Rattle.rio_format.specs.{declared.class.Base.{Base}, declared.class.ClassDef.{ClassDef}, declared.class.Member.{Member}, declared.kind.Kind.{Kind}, declared.value.Part.{Part}, declared.value.Value.{Value, out-Value}}
 use Rattle.rio_model.specs.Mapping.{Asked, Mapped, Mapping, PartMapping, base_mapped, base_part_of, class_named, each_mapped, mapping_of, member_mapped, member_part_of, or_changed, part_mapping}
 use Rattle.rio_model.specs.declared.map_fault.MapFault.{MapFault, TheVariants.{NoMemory}}
 use Rattle.rio_map.specs.Converting.{flat_as, stays}

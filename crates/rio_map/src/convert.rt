@@ -2,13 +2,11 @@
 ghost use Rattle.std.specs.Prelude.{◌≡◌, IfOk};
 ghost use Rattle.rio_map.specs.Converting.{counted_in, fixed_in, flat_as, inline_stays, pointer_stays, single_in, stays, text_in};
 ghost use Rattle.rio_model.specs.Mapping.{is_list_of, is_object_value, is_pointer_value};
-ghost use Rattle.rio_types.specs.declared.kind.Kind.TheVariants.{Text as Texts};
-ghost use Rattle.rio_value.specs.declared.value.Value.{out-Value};
+ghost use Rattle.rio_format.specs.{declared.kind.Kind.TheVariants.{Text as Texts}, declared.value.Value.{out-Value}};
 
 use crate::single::{list_as, single_as};
 use rio_num::NoMemory;
-use rio_types::{Kind, Prim};
-use rio_value::{Value, copy};
+use rio_format::{Kind, Prim, Value, copy};
 use std::alloc::Global;
 
 fn single_in(from: Prim, to: &Kind, value: &Value) -> Option<Value>

@@ -3,12 +3,10 @@ ghost use Rattle.std.specs.Prelude.{◌≡◌, pos, IfOk, option_and_then};
 ghost use Rattle.std.specs.Int.{int_rem_euclid, int_wrap, w8, w16, w32, w64};
 ghost use Rattle.std.specs.Option.{option_map};
 ghost use Rattle.rio_model.specs.Mapping.{bits_as, converts, each_as, is_numeric, list_as, number_as, number_of_kind, single_as};
-ghost use Rattle.rio_types.specs.declared.kind.Primitive.TheVariants.{Bool as Truth, I64};
-ghost use Rattle.rio_value.specs.declared.value.Value.{Int, List as Items, out-Value};
+ghost use Rattle.rio_format.specs.{declared.kind.Primitive.TheVariants.{Bool as Truth, I64}, declared.value.Value.{Int, List as Items, out-Value}};
 
 use rio_num::NoMemory;
-use rio_types::Prim;
-use rio_value::{Value, Values};
+use rio_format::{Prim, Value, Values};
 use std::alloc::Global;
 
 fn low_8(number: i128) -> u8

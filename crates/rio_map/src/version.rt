@@ -7,18 +7,15 @@ ghost use Rattle.rio_num.specs.Answers.{GivesUnless};
 ghost use Rattle.rio_model.specs.Mapping.{after_bases, as_version, base_mapped, base_part_of, class_named, described_bases, described_members, each_mapped, items_mapped, kind_zero, member_mapped, member_part_of, object_as, object_mapped, or_changed, zero_of_class};
 ghost use Rattle.rio_model.specs.Resolving.{built_in_version};
 ghost use Rattle.rio_model.specs.declared.map_fault.MapFault.TheVariants.{NoMemory as OutOfMemory};
-ghost use Rattle.rio_value.specs.declared.value.Value.{List as Items, Object, Pointed, out-Value};
-ghost use Rattle.rio_format.specs.Bodies.{part};
+ghost use Rattle.rio_format.specs.{declared.value.Value.{List as Items, Object, Pointed, out-Value}, Bodies.{part}};
 ghost use Rattle.rio_map.specs.Converting.{flat_as};
 ghost use Rattle.rio_map.specs.Versions.{Maps, asked_in, base_found, bases_as, behind, converted, has_base, is_base_part, is_nameless, kind_in, made_of, mapped_in, mapping_in, mapping_of_part, member_found, members_as, part_found};
 
 use crate::convert::{flat_as, stays};
 use crate::zero::{kind_zero, object_with, zero_of_class};
-use rio_format::part_with;
+use rio_format::{Base, ClassDef, Classes, Kind, Member, Part, Parts, Value, Values, copy, part_with};
 use rio_model::{MapFault, built_in_version};
 use rio_num::{Boxed, Name};
-use rio_types::{Base, ClassDef, Classes, Kind, Member};
-use rio_value::{Part, Parts, Value, Values, copy};
 use std::alloc::Global;
 
 // ---- what is there of an object

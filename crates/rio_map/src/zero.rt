@@ -1,14 +1,11 @@
 //! Zeros of kinds and of classes.
 ghost use Rattle.std.specs.Prelude.{◌≡◌, ◌+◌, IfOk, length, replicate};
-ghost use Rattle.rio_format.specs.Slots.{fields_of};
+ghost use Rattle.rio_format.specs.{Slots.{fields_of}, declared.value.Value.{Object}};
 ghost use Rattle.rio_model.specs.Mapping.{kind_zero, object_zero, parts_zero, single_zero, slot_zero, zero_of_class, zero_version, zero_within};
-ghost use Rattle.rio_value.specs.declared.value.Value.{Object};
 
-use rio_format::{Fields, Slot, SlotKind, fields_of, is_headed, part_with, slot_of};
+use rio_format::{Classes, Fields, Kind, Parts, Prim, Slot, SlotKind, Value, Values, fields_of, is_headed, part_with, slot_of};
 use rio_model::{built_in_version, newest_known};
 use rio_num::{Name, NoMemory};
-use rio_types::{Classes, Kind, Prim};
-use rio_value::{Parts, Value, Values};
 use std::alloc::Global;
 
 fn single_zero(prim: Prim) -> Value

@@ -3,11 +3,10 @@ use Rattle.std.proofs.Common.{◌≡◌, ℕ, ℤ, pos, List, [], ◌∷◌, cod
 use Rattle.std.proofs.lemmas.Bool.{and_parts, not-true}
 use Rattle.std.specs.Str.{bytes_eq}
 use Rattle.rio_num.specs.{At.{At}, Reading.{◌>>=◌}, Word.{is_name_text}}
-use Rattle.rio_types.specs.{declared.class.Base.{Base}, declared.class.ClassDef.{ClassDef}, declared.class.Member.{Member}}
-use Rattle.rio_types.specs.{declared.kind.Kind.{Kind, TheVariants.{Plain, Fixed, Counted, Text, Inline, Pointer}}, declared.kind.Primitive.{Primitive}}
+use Rattle.rio_format.specs.{declared.class.Base.{Base}, declared.class.ClassDef.{ClassDef}, declared.class.Member.{Member}}
+use Rattle.rio_format.specs.{declared.kind.Kind.{Kind, TheVariants.{Plain, Fixed, Counted, Text, Inline, Pointer}}, declared.kind.Primitive.{Primitive}, Bodies.{member}}
 use Rattle.rio_token.specs.{declared.token.Token.TheVariants.{End}, Reading.{Read, end_at, mark_at, marked, word_that_at}, Tokens.{behind, next_at}}
 use Rattle.rio_token.specs.Words.{num_between_of}
-use Rattle.rio_format.specs.Bodies.{member}
 use Rattle.rio_model.specs.ClassGrammar.{base, base_at, bases_at, class_at, class_of, dimension_of, has_i32, is_new_base, is_new_member, kind_at, member_at, plain_at, primitive_of, sized_at}
 use Rattle.rio_model.specs.ClassSpelling.{SpelledClassesAreRead, SpellsBase, SpellsBases, SpellsDeclaration, SpellsKind, SpellsMember, ends_kind}
 use Rattle.rio_model.specs.{ClassText.{primitive_text}, Lexemes.{IsNext, Lexeme, Stand, mark, word}, Stated.{is_class_word, is_none}}

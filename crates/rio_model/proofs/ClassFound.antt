@@ -4,13 +4,11 @@ use Rattle.std.proofs.{lemmas.Bool.{and_from, not_from_false}, lemmas.Slice.Eq.{
 use Rattle.std.specs.Str.{bytes_eq}
 use Rattle.rio_num.specs.{At.{At}, Reading.{◌>>=◌}, Word.{is_name_text}}
 use Rattle.rio_num.proofs.ReadLaws.{if_is}
-use Rattle.rio_types.specs.{declared.class.Base.{Base}, declared.class.ClassDef.{ClassDef}, declared.class.Member.{Member}}
-use Rattle.rio_types.specs.declared.kind.Kind.{Kind, TheVariants.{Plain, Fixed, Counted, Text, Inline, Pointer}}
-use Rattle.rio_types.specs.declared.kind.Primitive.{Primitive, TheVariants.{I8, I16, I32, I64, U8, U16, U32, U64, Bool as Truth, F32, F64}}
+use Rattle.rio_format.specs.{declared.class.Base.{Base}, declared.class.ClassDef.{ClassDef}, declared.class.Member.{Member}, declared.kind.Kind.{Kind, TheVariants.{Plain, Fixed, Counted, Text, Inline, Pointer}}}
+use Rattle.rio_format.specs.{declared.kind.Primitive.{Primitive, TheVariants.{I8, I16, I32, I64, U8, U16, U32, U64, Bool as Truth, F32, F64}}, Bodies.{member}}
 use Rattle.rio_token.specs.declared.token.Token.{Token, TheVariants.{Word, Text as Chars, Mark, Bad, Cut, End}}
 use Rattle.rio_token.specs.Reading.{Read, end_at, is_end, keyword_at, list_at, mark_at, marked, name_at, next_word, some_at, some_if, version_at, word_that_at}
 use Rattle.rio_token.specs.{Tokens.{behind, next_at}, Words.{num_between_of}}
-use Rattle.rio_format.specs.Bodies.{member}
 use Rattle.rio_model.specs.ClassGrammar.{base, base_at, bases_at, class_at, class_of, counted_by, dimension_at, dimension_of, fixed_or, has_i32, is_new_base, is_new_member, kind_at, member_at, plain_at, primitive_of, sized_at}
 use Rattle.rio_model.specs.ClassSpelling.{ReadClassesAreSpelled, SpellsBase, SpellsBases, SpellsDeclaration, SpellsKind, SpellsMember, ends_kind}
 use Rattle.rio_model.specs.{ClassText.{primitive_text}, Lexemes.{IsNext, Lexeme, SpellsItems, Stand, mark, word}, Stated.{is_class_word}}

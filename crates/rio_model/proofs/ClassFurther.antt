@@ -2,7 +2,7 @@
 use Rattle.std.proofs.Common.{ℕ, List, codes, Option, Some, None}
 use Rattle.std.specs.Str.{bytes_eq}
 use Rattle.rio_num.specs.{At.{At}, Word.{is_name_text}}
-use Rattle.rio_types.specs.{declared.class.Base.{Base}, declared.class.Member.{Member}, declared.kind.Primitive.{Primitive}}
+use Rattle.rio_format.specs.{declared.class.Base.{Base}, declared.class.Member.{Member}, declared.kind.Primitive.{Primitive}}
 use Rattle.rio_token.specs.{Further.{EndsFurther}, Marks.{asterisk, closing_brace, closing_bracket, colon, opening_brace, opening_bracket}}
 use Rattle.rio_token.specs.{Reading.{end_at, keyword_at, list_at, mark_at, marked, name_at, version_at, word_that_at}, Tokens.{behind}}
 use Rattle.rio_token.proofs.FurtherLaws.{behind_further, bind_further, from_further, further_here, if_further, list_further, some_further, taken_further, takes_end_further}

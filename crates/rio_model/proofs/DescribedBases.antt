@@ -2,9 +2,7 @@
 use Rattle.std.proofs.Common.{◌≡◌, ◌∙◌, ℕ, ◌+◌, pos, List, [], ◌∷◌, ◌++◌, codes, map, Bool, true, false, Option, Some, refl, ap, if◌then◌else◌}
 use Rattle.std.proofs.lemmas.Bool.{and_parts}
 use Rattle.std.specs.{List.{list_all}, Str.{bytes_eq}}
-use Rattle.rio_types.specs.declared.class.Base.{Base}
-use Rattle.rio_value.specs.declared.value.Value.{Pointed}
-use Rattle.rio_format.specs.{Elements.{Element, base_of_element, bases_of, element_of, is_code, members_of}, Fits.{fits_signed}}
+use Rattle.rio_format.specs.{declared.class.Base.{Base}, declared.value.Value.{Pointed}, Elements.{Element, base_of_element, bases_of, element_of, is_code, members_of}, Fits.{fits_signed}}
 use Rattle.rio_format.specs.{WrittenElements.{base_code, base_element}, WrittenList.{element_object, pointers_from}}
 use Rattle.rio_model.specs.Described.{is_base_number}
 use Rattle.rio_model.proofs.{DescribedElements.{element_said, said}, DescribedValues.{signed_back}}

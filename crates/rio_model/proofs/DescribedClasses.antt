@@ -3,11 +3,9 @@ use Rattle.std.proofs.Common.{◌≡◌, ◌∙◌, ℤ, ℕ, ◌+◌, ◌^◌, 
 use Rattle.std.proofs.{lemmas.Bool.{and_parts, Decides.{nat_tests}}, lemmas.List.{map-append}}
 use Rattle.std.specs.{List.{filter_map, list_all}, Ordering.{int_eq}, Str.{bytes_eq}}
 use Rattle.rio_num.specs.Word.{is_name_text}
-use Rattle.rio_types.specs.declared.class.ClassDef.{ClassDef}
-use Rattle.rio_value.specs.{declared.value.Part.{Part}, declared.value.Value.{Value, Int, Text, List as Items, Object, Pointed}, Accessors.{parts_of}}
+use Rattle.rio_format.specs.{declared.class.ClassDef.{ClassDef}, declared.value.Part.{Part}, declared.value.Value.{Value, Int, Text, List as Items, Object, Pointed}, Accessors.{parts_of}}
 use Rattle.rio_format.specs.{Bodies.{part}, ClassList.{class_with, classes_of, described_class, element_items, elements_of, item_class, list_items}}
-use Rattle.rio_format.specs.{Elements.{Element, bases_of, element_of, members_of}, Fits.{fits_signed}, ValueParts.{parts_behind}}
-use Rattle.rio_format.specs.WrittenElements.{base_element, member_element, written_elements}
+use Rattle.rio_format.specs.{Elements.{Element, bases_of, element_of, members_of}, Fits.{fits_signed}, ValueParts.{parts_behind}, WrittenElements.{base_element, member_element, written_elements}}
 use Rattle.rio_format.specs.WrittenList.{array_object, class_links, class_list_value, class_pointer, element_object, info_object, label_count, linked, list_object, number_part, plain_object, pointers_from, titled_object}
 use Rattle.rio_model.specs.Stated.{are_stated_bases, are_stated_members, has_stated_parts, is_class_version}
 use Rattle.rio_model.specs.Described.{has_class_numbers, is_base_number, is_described, WrittenListIsRead}

@@ -1,10 +1,8 @@
 -- What an element that is written says when it is read.
 use Rattle.std.proofs.Common.{◌≡◌, ◌∙◌, ℕ, pos, List, [], ◌∷◌, codes, true, Some, option_and_then, option_map, refl, ap}
-use Rattle.rio_value.specs.{declared.value.Part.{Part}, declared.value.Value.{Text, Object, Pointed, out-Value}, Accessors.{part_of}}
-use Rattle.rio_format.specs.{Bodies.{part}, Descriptions.{is_element}}
+use Rattle.rio_format.specs.{declared.value.Part.{Part}, declared.value.Value.{Text, Object, Pointed, out-Value}, Accessors.{part_of}, Bodies.{part}, Descriptions.{is_element}}
 use Rattle.rio_format.specs.{Elements.{Element, element_of, element_with, layer_element, pointed_element_parts as parts_behind_element}, Fits.{fits_signed}}
-use Rattle.rio_format.specs.{ValueParts.{base_parts, signed_in, text_in}, WrittenList.{element_object, element_parts, plain_object, titled_object}}
-use Rattle.rio_format.specs.WrittenElements.{WrittenElement as Written}
+use Rattle.rio_format.specs.{ValueParts.{base_parts, signed_in, text_in}, WrittenList.{element_object, element_parts, plain_object, titled_object}, WrittenElements.{WrittenElement as Written}}
 use Rattle.rio_model.proofs.DescribedValues.{element_back, object_back, pointer_back, signed_back, text_back}
 
 abbrev pub said : Written → Element

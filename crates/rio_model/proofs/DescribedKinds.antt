@@ -3,9 +3,8 @@ use Rattle.std.proofs.Common.{◌≡◌, ◌∙◌, ℕ, suc, zero, ◌-◌, Lis
 use Rattle.std.proofs.{Math.Seq.{drop-append_seam, take-append_seam}, lemmas.Bool.{and_parts, false_from_ne_true}, lemmas.Slice.Eq.{bytes_eq-Decides}}
 use Rattle.std.specs.{Char.{is_ascii_digit, is_ascii_lowercase, is_ascii_uppercase}, List.{list_any, list_all}, Str.{bytes_eq}}
 use Rattle.rio_num.specs.Word.{begins_name, goes_on_name, is_name_text}
-use Rattle.rio_types.specs.{declared.class.ClassDef.{ClassDef}, declared.kind.Kind.TheVariants.{Plain, Counter, Fixed, Counted, Text, Inline, Pointer}}
-use Rattle.rio_types.specs.declared.kind.Primitive.{Primitive, TheVariants.{I8, I16, I32, I64, U8, U16, U32, U64, Bool as Boolean, F32, F64}}
-use Rattle.rio_format.specs.Elements.{kind_of, own_kind, primitive_by_code, without_star}
+use Rattle.rio_format.specs.{declared.class.ClassDef.{ClassDef}, declared.kind.Kind.TheVariants.{Plain, Counter, Fixed, Counted, Text, Inline, Pointer}}
+use Rattle.rio_format.specs.{declared.kind.Primitive.{Primitive, TheVariants.{I8, I16, I32, I64, U8, U16, U32, U64, Bool as Boolean, F32, F64}}, Elements.{kind_of, own_kind, primitive_by_code, without_star}}
 use Rattle.rio_format.specs.WrittenElements.{counted_element, counter_element, fixed_element, inline_element, plain_element, pointer_element, text_element, starred}
 use Rattle.rio_model.proofs.{DescribedElements.{said}, DescribedValues.{text_back}}
 

@@ -4,11 +4,8 @@ use Rattle.std.proofs.{lemmas.Bool.{and_parts, or_cases, or_left, or_right, Deci
 use Rattle.std.specs.{List.{list_any}, Ordering.{int_eq}, Str.{bytes_eq}}
 use Rattle.rio_num.specs.Word.{is_name_text}
 use Rattle.rio_num.proofs.BytesEq.{bytes_eq-sym}
-use Rattle.rio_types.specs.{declared.class.ClassDef.{ClassDef}, declared.class.Member.{Member}}
-use Rattle.rio_types.specs.declared.kind.Kind.{Kind, TheVariants.{Plain, Counter, Fixed, Counted, Text, Inline, Pointer, Other}}
-use Rattle.rio_types.specs.declared.kind.Primitive.{Primitive, TheVariants.{I8, I16, I32, I64, U8, U16, U32, U64, Bool as Boolean, F32, F64}}
-use Rattle.rio_types.specs.Members.{is_counter}
-use Rattle.rio_format.specs.Descriptions.{is_element}
+use Rattle.rio_format.specs.{declared.class.ClassDef.{ClassDef}, declared.class.Member.{Member}, declared.kind.Kind.{Kind, TheVariants.{Plain, Counter, Fixed, Counted, Text, Inline, Pointer, Other}}}
+use Rattle.rio_format.specs.{declared.kind.Primitive.{Primitive, TheVariants.{I8, I16, I32, I64, U8, U16, U32, U64, Bool as Boolean, F32, F64}}, Members.{is_counter}, Descriptions.{is_element}}
 use Rattle.rio_format.specs.{Elements.{Element, base_of_element, bases_of, counters_behind, element_of, kind_of, member_of, members_of}, Fits.{fits_signed}}
 use Rattle.rio_format.specs.WrittenElements.{counted_element, fixed_element, inline_element, kind_element, member_element, plain_element, pointer_element, primitive_code, reaches_object, WrittenElement as Written}
 use Rattle.rio_format.specs.WrittenList.{element_object, pointers_from}

@@ -1,10 +1,9 @@
 -- Values taken apart: what stands in each.
 use Rattle.std.proofs.Common.{◌≡◌, [], ◌∙◌, ℤ, ℕ, ◌^◌, pos, List, true, ltb, ◌&&◌, Some, unwrap_or, refl, ap, sym}
 use Rattle.std.specs.{Ordering.{int_eq}, Str.{bytes_eq}}
-use Rattle.rio_value.specs.declared.value.Part.{Part}
-use Rattle.rio_value.specs.declared.value.Value.{Value, Int, Text, List as Items, Object, Pointed, out-Value, out-roll-Value, TheVariants.{rolls-Text, rolls-List, rolls-Object, rolls-Pointed}}
-use Rattle.rio_value.specs.Accessors.{layer_integer, layer_list, layer_object, layer_parts, layer_text_bytes, layer_unsigned_integer, pointed_object, parts_of}
-use Rattle.rio_value.specs.declared.value.Value.TheOpen as layer
+use Rattle.rio_format.specs.{declared.value.Part.{Part}, declared.value.Value.{Value, Int, Text, List as Items, Object, Pointed, out-Value, out-roll-Value, TheVariants.{rolls-Text, rolls-List, rolls-Object, rolls-Pointed}}}
+use Rattle.rio_format.specs.Accessors.{layer_integer, layer_list, layer_object, layer_parts, layer_text_bytes, layer_unsigned_integer, pointed_object, parts_of}
+use Rattle.rio_format.specs.declared.value.Value.TheOpen as layer
 use Rattle.rio_format.specs.{Elements.{layer_element}, Fits.{fits_signed}, ValueParts.{items_in, signed_in, text_in, unsigned_in}}
 use Rattle.rio_format.proofs.ValueCases.{out_int}
 

@@ -1,12 +1,11 @@
 -- Some texts, and what they are read as.
 use Rattle.std.proofs.Common.{◌≡◌, pos, [], ◌∷◌, Err, refl}
 use Rattle.std.specs.{Prelude.{codes}, Fmt.{digits}}
-use Rattle.rio_types.specs.{declared.class.ClassDef.{ClassDef}, declared.kind.Kind.TheVariants.{Plain, Pointer}, declared.kind.Primitive.TheVariants.{I32}}
+use Rattle.rio_format.specs.{declared.class.ClassDef.{ClassDef}, declared.kind.Kind.TheVariants.{Plain, Pointer}, declared.kind.Primitive.TheVariants.{I32}, Bodies.{member}}
 use Rattle.rio_token.specs.declared.fault.TextFault.TheVariants.{BadText}
 use Rattle.rio_token.specs.{Reading.{list_at, mark_at, more_at, num_between_at, some_at, string_at, word_at, word_that_at}, Tokens.{scan_of}}
 use Rattle.rio_token.specs.Words.{decimal, number_of, written}
 use Rattle.rio_num.specs.Printed.{name_text}
-use Rattle.rio_format.specs.Bodies.{member}
 use Rattle.rio_model.specs.{ClassGrammar.{bases_at, class_at, class_in, dimension_of, kind_at, member_at, primitive_of, sized_at}, ClassText.{text_of_class}}
 use Rattle.rio_model.specs.Lexemes.{Stand, chars, mark}
 use Rattle.rio_model.specs.ValueGrammar.{class_version_at, enclosed_at, enclosed_by, object_at, part_at, text_value_at, value_and_end, value_in, value_in_text, values_at, word_value, word_value_at}

@@ -2,15 +2,12 @@
 use Rattle.std.proofs.Common.{◌≡◌, ◌≤◌, ◌∙◌, ◌&&◌, ℕ, ◌+◌, ℤ, pos, int_le, Bool, true, false, List, [], ◌∷◌, ◌++◌, map, codes, refl, ap, arith}
 use Rattle.std.proofs.lemmas.Bool.{and_from}
 use Rattle.std.specs.List.{list_all}
-use Rattle.rio_types.specs.{declared.class.Base.{Base}, declared.class.ClassDef.{ClassDef}, declared.class.Member.{Member}}
-use Rattle.rio_types.specs.declared.kind.Kind.{Kind, TheVariants.{Plain, Counter, Fixed, Counted, Text as Texted, Inline, Pointer, Other}}
-use Rattle.rio_value.specs.{Depth.{greatest, depth_step, depth_of}, declared.value.Part.{Part}}
-use Rattle.rio_value.specs.declared.value.Value.{Value, Int, Text, List as Items, Object, Pointed}
-use Rattle.rio_value.proofs.DepthLaws.{part_depth}
-use Rattle.rio_format.specs.Laws.{versions_step, has_versions}
+use Rattle.rio_format.specs.{declared.class.Base.{Base}, declared.class.ClassDef.{ClassDef}, declared.class.Member.{Member}}
+use Rattle.rio_format.specs.{declared.kind.Kind.{Kind, TheVariants.{Plain, Counter, Fixed, Counted, Text as Texted, Inline, Pointer, Other}}, Depth.{greatest, depth_step, depth_of}, declared.value.Part.{Part}}
+use Rattle.rio_format.specs.{declared.value.Value.{Value, Int, Text, List as Items, Object, Pointed}, Laws.{versions_step, has_versions}}
+use Rattle.rio_format.proofs.{DepthLaws.{part_depth}, ValueCases.{Each, fold_Int, fold_Text, fold_List, fold_Object, fold_Pointed}, WrittenValues.{part_versions}}
 use Rattle.rio_format.specs.WrittenElements.{base_element, inline_element, kind_element, member_element, pointer_element, reaches_object, written_elements, WrittenElement}
 use Rattle.rio_format.specs.WrittenList.{array_object, class_links, class_list_value, class_pointer, element_object, element_parts, info_object, label_count, list_object, plain_object, pointers_from, titled_object}
-use Rattle.rio_format.proofs.{ValueCases.{Each, fold_Int, fold_Text, fold_List, fold_Object, fold_Pointed}, WrittenValues.{part_versions}}
 use Rattle.rio_model.specs.Described.{WrittenListHasVersions, WrittenListIsShallow}
 
 -- it is at most so deep, and the versions of its objects can be written

@@ -2,16 +2,13 @@
 use Rattle.std.proofs.Common.{◌≡◌, ◌<◌, ◌∙◌, ◌^◌, ◌*◌, ℕ, ◌+◌, ℤ, pos, Bool, true, false, cond, List, [], ◌∷◌, ◌++◌, length, map, codes, Some, refl, ap, sym, arith, append-nil, append_assoc, bytes_eq, nat_lt}
 use Rattle.std.proofs.{lemmas.Bool.{and_parts, ltb-true, lt-ltb}, lemmas.List.{length-append}}
 use Rattle.std.specs.List.{list_all}
-use Rattle.rio_types.specs.{declared.class.Base.{Base}, declared.class.ClassDef.{ClassDef}, declared.class.Member.{Member}}
-use Rattle.rio_types.specs.declared.kind.Kind.{Kind, TheVariants.{Plain, Counter, Fixed, Counted, Text as Texted, Inline, Pointer, Other}}
-use Rattle.rio_types.specs.declared.kind.Primitive.{Primitive, TheVariants.{I8, I16, I32, I64, U8, U16, U32, U64, Bool as Boolean, F32, F64}}
-use Rattle.rio_value.specs.declared.value.Value.{Value, Object, Pointed}
-use Rattle.rio_format.specs.{Bodies.{part}, Descriptions.{description_classes}, Fits.{Labels, all_fit, fits_signed, fitting_of, may_point}, Prims.{width_of}}
-use Rattle.rio_format.specs.Slots.{kinded, based, any_pointer}
+use Rattle.rio_format.specs.{declared.class.Base.{Base}, declared.class.ClassDef.{ClassDef}, declared.class.Member.{Member}}
+use Rattle.rio_format.specs.declared.kind.Kind.{Kind, TheVariants.{Plain, Counter, Fixed, Counted, Text as Texted, Inline, Pointer, Other}}
+use Rattle.rio_format.specs.{declared.kind.Primitive.{Primitive, TheVariants.{I8, I16, I32, I64, U8, U16, U32, U64, Bool as Boolean, F32, F64}}, declared.value.Value.{Value, Object, Pointed}}
+use Rattle.rio_format.specs.{Bodies.{part}, Descriptions.{description_classes}, Fits.{Labels, all_fit, fits_signed, fitting_of, may_point}, Prims.{width_of}, Slots.{kinded, based, any_pointer}}
 use Rattle.rio_format.specs.WrittenElements.{base_element, counted_element, inline_element, kind_element, member_element, pointer_element, primitive_code, reaches_object, WrittenElement}
 use Rattle.rio_format.specs.WrittenList.{element_object, element_parts, pointers_from}
-use Rattle.rio_format.proofs.{ValueCases.{Each}, WrittenParts.{FitsIn, index_list_fits, int_fits, pointer_fits, text_fits, titled_fits}}
-use Rattle.rio_format.proofs.WrittenValues.{object_fitting, fit_object}
+use Rattle.rio_format.proofs.{ValueCases.{Each}, WrittenParts.{FitsIn, index_list_fits, int_fits, pointer_fits, text_fits, titled_fits}, WrittenValues.{object_fitting, fit_object}}
 use Rattle.rio_model.specs.Described.{is_base_number, kind_has_numbers, member_has_numbers}
 
 -- its numbers are i32

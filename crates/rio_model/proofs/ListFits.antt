@@ -2,15 +2,11 @@
 use Rattle.std.proofs.Common.{◌≡◌, ◌∙◌, ◌&&◌, ◌^◌, ℕ, ◌+◌, pos, true, List, [], ◌∷◌, ◌++◌, length, map, codes, Option, Some, refl, ap, append_assoc, arith, nat_lt, is_some}
 use Rattle.std.proofs.{lemmas.Bool.{and_parts, le-leb}, lemmas.List.{length-append, length-map}}
 use Rattle.std.specs.List.{list_all}
-use Rattle.rio_types.specs.{declared.class.ClassDef.{ClassDef}, declared.kind.Kind.TheVariants.{Inline, Pointer}}
-use Rattle.rio_types.specs.declared.kind.Primitive.TheVariants.{I32, U32}
-use Rattle.rio_value.specs.declared.value.Value.{Value, Pointed}
+use Rattle.rio_format.specs.{declared.class.ClassDef.{ClassDef}, declared.kind.Kind.TheVariants.{Inline, Pointer}, declared.kind.Primitive.TheVariants.{I32, U32}, declared.value.Value.{Value, Pointed}}
 use Rattle.rio_format.specs.{Descriptions.{description_classes}, Fits.{Labels, Fitting, all_fit, fits_signed, fits_unsigned, fitting_of, fitting_step}}
 use Rattle.rio_format.specs.{Slots.{kinded, any_pointer, link}, WrittenElements.{base_element, member_element, written_elements}}
 use Rattle.rio_format.specs.WrittenList.{array_object, class_links, class_list_value, class_pointer, element_object, info_object, label_count, list_object, pointers_from}
-use Rattle.rio_format.proofs.ValueCases.{Each, fold_List}
-use Rattle.rio_format.proofs.WrittenParts.{FitsIn, array_fits, int_fits, linked_fits, plain_fits, pointer_fits, pointer_to, text_fits, titled_fits}
-use Rattle.rio_format.proofs.WrittenValues.{fit_object}
+use Rattle.rio_format.proofs.{ValueCases.{Each, fold_List}, WrittenParts.{FitsIn, array_fits, int_fits, linked_fits, plain_fits, pointer_fits, pointer_to, text_fits, titled_fits}, WrittenValues.{fit_object}}
 use Rattle.rio_model.specs.Described.{WrittenListFits, has_numbers, is_base_number, member_has_numbers}
 use Rattle.rio_model.proofs.ListElements.{ElementFits, bases_fit, members_fit, own_label, pointers_fit}
 

@@ -1,8 +1,7 @@
 -- The bytes of the class list spell it, and are read as it.
 use Rattle.std.proofs.Common.{codes, Result, refl, ap}
-use Rattle.rio_value.specs.declared.value.Value.{Value}
-use Rattle.rio_format.specs.{Descriptions.{description_classes}, Objects.{only_value}, WrittenBytes.{class_list_bytes}, WrittenList.{class_list_value}}
-use Rattle.rio_buffer.specs.{ReaderState.{ReaderState}, declared.fault.ObjFault.{ObjFault}}
+use Rattle.rio_format.specs.{declared.value.Value.{Value}, Descriptions.{description_classes}, Objects.{only_value}, WrittenBytes.{class_list_bytes}, WrittenList.{class_list_value}}
+use Rattle.rio_format.specs.{ReaderState.{ReaderState}, declared.fault.ObjFault.{ObjFault}}
 use Rattle.rio_format.proofs.{ObjectLaws.{spelled_is_read}, WrittenValues.{written_is_spelled}}
 use Rattle.rio_model.specs.Described.{WrittenBytesAreRead, WrittenClassesAreRead, WrittenListIsSpelled}
 use Rattle.rio_model.proofs.{DescribedClasses.{written_list_read}, ListDepth.{written_list_has_versions, written_list_is_shallow}, ListFits.{written_list_fits}}

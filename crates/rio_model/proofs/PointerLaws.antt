@@ -1,9 +1,7 @@
 -- Pointers to the elements of a class, first to those of its bases and then to those of its members.
 use Rattle.std.proofs.{Common.{◌≡◌, ◌∙◌, ℕ, ◌+◌, List, [], ◌∷◌, ◌++◌, length, map, refl, ap, arith}, lemmas.List.{length-map, map-append}}
 use Rattle.std.proofs.lemmas.Simd.{map-map}
-use Rattle.rio_types.specs.declared.class.ClassDef.{ClassDef}
-use Rattle.rio_value.specs.declared.value.Value.{Value, Pointed}
-use Rattle.rio_format.specs.{WrittenElements.{base_element, member_element, written_elements}, WrittenList.{element_object, pointers_from}}
+use Rattle.rio_format.specs.{declared.class.ClassDef.{ClassDef}, declared.value.Value.{Value, Pointed}, WrittenElements.{base_element, member_element, written_elements}, WrittenList.{element_object, pointers_from}}
 
 -- labels go on behind those of the first list
 pub pointers_from-append : (label : ℕ) (xs ys : List Value) → pointers_from label (xs ++ ys) ≡ pointers_from label xs ++ pointers_from (label + length xs) ys

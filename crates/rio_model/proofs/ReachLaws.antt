@@ -5,8 +5,7 @@ use Rattle.std.proofs.{lemmas.Map.Keys.{IsDistinct-cons, IsDistinct-tail}, lemma
 use Rattle.std.specs.{List.{AllByRecursion, IsDistinct, list_any}, Str.{bytes_eq}}
 use Rattle.rio_num.proofs.Cases.{either}
 use Rattle.rio_num.specs.Word.{is_among}
-use Rattle.rio_types.specs.{declared.class.Base.{Base}, declared.class.ClassDef.{ClassDef}, declared.class.Member.{Member}}
-use Rattle.rio_types.specs.declared.kind.Kind.{Kind, TheVariants.{Inline}}
+use Rattle.rio_format.specs.{declared.class.Base.{Base}, declared.class.ClassDef.{ClassDef}, declared.class.Member.{Member}, declared.kind.Kind.{Kind, TheVariants.{Inline}}}
 use Rattle.rio_model.specs.Declaring.{IsWay, Reaches, any_inline, any_within, has_within, holds, is_inline, reaches}
 
 -- ---- tests

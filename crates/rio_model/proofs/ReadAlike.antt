@@ -1,7 +1,7 @@
 -- Reading does not care for blanks before the first token.
 use Rattle.std.proofs.Common.{◌≡◌, ℕ, zero, suc, ◌+◌, List, [], ◌∷◌, Bool, true, false, ◌==◌, ◌&&◌, if◌then◌else◌, Option, Some, None, Ok, Err, refl}
 use Rattle.rio_num.specs.{At.{At}, Reading.{◌>>=◌}, Word.{is_name_text}}
-use Rattle.rio_value.specs.declared.value.Value.{Value}
+use Rattle.rio_format.specs.declared.value.Value.{Value}
 use Rattle.rio_token.specs.{declared.token.Token.{Token, TheVariants.{Word, Text, Mark, Cut}}, Tokens.{behind, next_at}}
 use Rattle.rio_token.specs.Reading.{Read, bad_at, list_at, mark_at, num_between_at, some_at, string_at, string_by, taken_at, word_at, word_that_at}
 use Rattle.rio_token.proofs.StandLaws.{Alike, at, blank_alike}

@@ -5,11 +5,9 @@ use Rattle.std.proofs.{lemmas.List.{map-append, Folds.{list_any-append}}, lemmas
 use Rattle.std.specs.{List.{list_any}, Str.{bytes_eq}}
 use Rattle.rio_num.specs.Word.{is_name_text}
 use Rattle.rio_num.proofs.Cases.{nothing_left}
-use Rattle.rio_types.specs.{declared.class.Base.{Base}, declared.class.Member.{Member}}
-use Rattle.rio_types.specs.declared.kind.Kind.{Kind, TheVariants.{Plain, Counter, Fixed, Counted, Text, Inline, Pointer, Other}}
-use Rattle.rio_types.specs.{declared.kind.Primitive.TheVariants.{I32}, Members.{is_counter}}
+use Rattle.rio_format.specs.{declared.class.Base.{Base}, declared.class.Member.{Member}, declared.kind.Kind.{Kind, TheVariants.{Plain, Counter, Fixed, Counted, Text, Inline, Pointer, Other}}}
+use Rattle.rio_format.specs.{declared.kind.Primitive.TheVariants.{I32}, Members.{is_counter}, Bodies.{member}}
 use Rattle.rio_token.proofs.SeparatedLaws.{AllBack}
-use Rattle.rio_format.specs.Bodies.{member}
 use Rattle.rio_model.specs.ClassGrammar.{base, base_at, counting, counts_by, has_base_named, has_i32, has_member, is_counted_by, is_i32, is_i32_of, member_at, with_counters}
 use Rattle.rio_model.specs.ClassText.{base_text, kind_text, member_text}
 use Rattle.rio_model.specs.Stated.{are_stated_bases, are_stated_members, has_counter, is_stated_base, is_stated_kind, is_stated_member}

@@ -3,7 +3,7 @@ use Rattle.std.proofs.Common.{◌≡◌, ℕ, ◌+◌, ◌≤◌, min, ℤ, pos,
 use Rattle.std.proofs.lemmas.Bool.{and_parts, eqb-true}
 use Rattle.std.specs.{Fmt.{decimal}, List.{flat_map}, Str.{bytes_eq}}
 use Rattle.rio_num.specs.{At.{At}, Word.{is_name_text}}
-use Rattle.rio_types.specs.{declared.class.Base.{Base}, declared.class.ClassDef.{ClassDef}, declared.class.Member.{Member}}
+use Rattle.rio_format.specs.{declared.class.Base.{Base}, declared.class.ClassDef.{ClassDef}, declared.class.Member.{Member}}
 use Rattle.rio_token.specs.{Tokens.{behind, scan_of}, Reading.{end_at, list_at, mark_at, marked, name_at, some_at, version_at}}
 use Rattle.rio_token.proofs.{DecimalLaws.{nums_are_read}, SeparatedLaws.{list_back, some_back}}
 use Rattle.rio_token.proofs.StandLaws.{IsWord, Stops, at, blank_alike, drop_front, name_is_word, num_between_back, word_that_back}

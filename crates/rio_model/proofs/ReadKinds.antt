@@ -3,9 +3,8 @@ use Rattle.std.proofs.Common.{◌≡◌, ℕ, ◌+◌, ◌≤◌, List, [], ◌�
 use Rattle.std.proofs.lemmas.Bool.{and_parts, leb-true, not-true, Decides.{nat_tests}}
 use Rattle.std.specs.{Fmt.{decimal}, List.{list_all}, Str.{bytes_eq}}
 use Rattle.rio_num.specs.{At.{At}, Word.{begins_name, goes_on_name, is_name_text}}
-use Rattle.rio_types.specs.declared.class.Member.{Member}
-use Rattle.rio_types.specs.declared.kind.Kind.{Kind, TheVariants.{Plain, Counter, Fixed, Counted, Text, Inline, Pointer, Other}}
-use Rattle.rio_types.specs.declared.kind.Primitive.{Primitive, TheVariants.{I8, I16, I32, I64, U8, U16, U32, U64, Bool as Truth, F32, F64}}
+use Rattle.rio_format.specs.{declared.class.Member.{Member}, declared.kind.Kind.{Kind, TheVariants.{Plain, Counter, Fixed, Counted, Text, Inline, Pointer, Other}}}
+use Rattle.rio_format.specs.declared.kind.Primitive.{Primitive, TheVariants.{I8, I16, I32, I64, U8, U16, U32, U64, Bool as Truth, F32, F64}}
 use Rattle.rio_token.specs.{Tokens.{behind, scan_of}, Reading.{mark_at, marked}, Words.{decimal as decimal_of, num_between_of, written}}
 use Rattle.rio_token.proofs.{DecimalLaws.{nums_are_read}, StandLaws.{IsWord, Stops, at, behind_word, name_is_word, next_is_word, word_that_back}}
 use Rattle.rio_model.specs.{ClassGrammar.{dimension_of, has_i32, kind_at, plain_at, primitive_of, sized_at}, ClassText.{kind_text, primitive_text}}

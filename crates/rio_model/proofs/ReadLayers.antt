@@ -3,9 +3,9 @@ use Rattle.std.proofs.Common.{◌≡◌, ℕ, zero, suc, ◌+◌, ◌-◌, ◌^�
 use Rattle.std.proofs.lemmas.Bool.{and_parts, Decides.{nat_tests}}
 use Rattle.std.specs.{Fmt.{decimal, signed_decimal}, List.{list_all}}
 use Rattle.rio_num.specs.{Printed.{string_text}, Word.{is_name_text}, At.{AreBytes}}
-use Rattle.rio_value.specs.declared.value.Value.{Value, Int, Bits32, Bits64, Bool as Truth, Text as Chars, List as Items, Object, Pointed, Null, Back, Opaque, roll-Value, map-Value, TheOpen.{Value-F}, TheVariants.{rolls-Int, rolls-Bits32, rolls-Bits64, rolls-Bool, rolls-Text, rolls-List, rolls-Object, rolls-Pointed, rolls-Null, rolls-Back, rolls-Opaque}, TheFolds.{fold-roll-Value, ind-Value}}
-use Rattle.rio_value.specs.declared.value.Part.{Part, Part-F}
-use Rattle.rio_value.specs.declared.value.Value.TheOpen as layer
+use Rattle.rio_format.specs.declared.value.Value.{Value, Int, Bits32, Bits64, Bool as Truth, Text as Chars, List as Items, Object, Pointed, Null, Back, Opaque, roll-Value, map-Value, TheOpen.{Value-F}, TheVariants.{rolls-Int, rolls-Bits32, rolls-Bits64, rolls-Bool, rolls-Text, rolls-List, rolls-Object, rolls-Pointed, rolls-Null, rolls-Back, rolls-Opaque}, TheFolds.{fold-roll-Value, ind-Value}}
+use Rattle.rio_format.specs.declared.value.Part.{Part, Part-F}
+use Rattle.rio_format.specs.declared.value.Value.TheOpen as layer
 use Rattle.rio_token.specs.Laws.{IsNumber}
 use Rattle.rio_token.proofs.StandLaws.{at, drop_front}
 use Rattle.rio_model.specs.Readable.{Follows, PartReadability, Readability, ValuesAreRead, are_bases_first, are_parts_within, is_number, part_readable, part_within, readability_of, readable_step, single}

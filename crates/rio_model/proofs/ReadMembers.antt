@@ -1,11 +1,10 @@
 -- The members and bases that are printed are read again.
 use Rattle.std.proofs.Common.{◌≡◌, ◌⊎◌, inl, inr, ℕ, ◌+◌, List, ◌∷◌, ◌++◌, codes, length, true, false, ◌&&◌, not, Ok, refl, ◌∙◌, ap, arith, append_assoc, length-append}
 use Rattle.rio_num.specs.{At.{At}, Word.{is_name_text}}
-use Rattle.rio_types.specs.{declared.class.Base.{Base}, declared.class.Member.{Member}, declared.kind.Kind.{Kind}}
+use Rattle.rio_format.specs.{declared.class.Base.{Base}, declared.class.Member.{Member}, declared.kind.Kind.{Kind}, Bodies.{member}}
 use Rattle.rio_token.specs.{declared.token.Token.{Token, TheVariants.{Mark}}, Tokens.{next_at, scan_of}}
 use Rattle.rio_token.specs.Reading.{is_mark, is_word, mark_at, marked, word_that_at}
 use Rattle.rio_token.proofs.{SeparatedLaws.{Ends, IsBack}, StandLaws.{at, blank_alike, name_is_word, word_that_back}}
-use Rattle.rio_format.specs.Bodies.{member}
 use Rattle.rio_model.specs.{ClassGrammar.{base, base_at, has_base_named, has_member, kind_at, member_at}, ClassText.{base_text, kind_text, member_text}}
 use Rattle.rio_model.proofs.{ReadAlike.{word_that_alike}, ReadKinds.{IsEnd, is_read_kind, kind_back}, ReadWords.{name_as_it_is}}
 

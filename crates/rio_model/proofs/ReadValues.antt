@@ -3,8 +3,7 @@ use Rattle.std.proofs.Common.{◌≡◌, ◌⊎◌, inl, inr, ℕ, suc, ◌+◌,
 use Rattle.std.proofs.{lemmas.Bool.{and_parts, eqb-true}, Math.Bool.{and-false}}
 use Rattle.std.specs.{Fmt.{decimal}, List.{list_all}}
 use Rattle.rio_num.specs.{At.{AreBytes, At}, Reading.{◌>>=◌}, Printed.{name_text, string_text}, Word.{is_name_text}}
-use Rattle.rio_value.specs.declared.value.Value.{Value, Bool as Truth, Text as Chars, List as Items, Object, Pointed, Null, Back, TheFolds.{fold-Part, fold_out-Part}}
-use Rattle.rio_value.specs.declared.value.Part.{Part}
+use Rattle.rio_format.specs.{declared.value.Value.{Value, Bool as Truth, Text as Chars, List as Items, Object, Pointed, Null, Back, TheFolds.{fold-Part, fold_out-Part}}, declared.value.Part.{Part}, Bodies.{part}}
 use Rattle.rio_token.specs.{declared.token.Token.{Token, TheVariants.{Mark}}, Tokens.{behind, next_at, scan_of}}
 use Rattle.rio_token.specs.Reading.{is_mark, is_word, list_at, mark_at, marked, word_that_at}
 use Rattle.rio_token.proofs.{DecimalLaws.{nums_are_read}, SeparatedLaws.{AllBack, Ends, list_back}}
@@ -13,7 +12,6 @@ use Rattle.rio_model.specs.Lists.{separated}
 use Rattle.rio_model.specs.Readable.{Follows, PartReadability, Readability, are_bases_first, part_readable, part_within, readability_of, readable_step}
 use Rattle.rio_model.specs.ValueGrammar.{Reader, class_version_at, enclosed_at, enclosed_by, named_object_at, object_at, object_of, opens_object, part_at, pointer_at, text_value_at, value_by, value_in_text, values_at, word_value, word_value_at}
 use Rattle.rio_model.specs.ValueText.{PrintedValue, between_braces, label_text, part_texts, printed_part, printed_value, text_of_value}
-use Rattle.rio_format.specs.Bodies.{part}
 use Rattle.rio_model.proofs.{ReadAlike.{part_behind_blank, value_behind_blank}, ReadWords.{decimal_word, is_behind, name_as_it_is, not_empty, plain_word_back}}
 use Rattle.rio_model.proofs.ValueTextLaws.{printed-Object, separated-map, text_of-List, text_of-Object, text_of-Pointed}
 

@@ -5,7 +5,7 @@ use Rattle.std.proofs.{Math.Nat.{pow-succ'}, Math.Bool.{and-false}}
 use Rattle.std.specs.{Fmt.{decimal, signed_decimal}, Int.{byte_at}, List.{list_all}, Str.{bytes_eq}}
 use Rattle.byteorder.specs.{Endian.{big_bytes, big_from}, Numbers.{big_from-cons, big_number-reads_back, length-bytes_high_first}}
 use Rattle.rio_num.specs.{Word.{is_name_text, begins_name, goes_on_name}, Printed.{hex_digit, hex_text, is_bare, name_text}}
-use Rattle.rio_value.specs.declared.value.Value.{Value, Int, Bits32, Bits64}
+use Rattle.rio_format.specs.declared.value.Value.{Value, Int, Bits32, Bits64}
 use Rattle.rio_token.specs.{declared.words.Bits.{Bits, TheVariants.{Four, Eight}}, Tokens.{scan_of}, Reading.{marked}, Laws.{IsNumber}}
 use Rattle.rio_token.specs.Words.{bits_of, decimal as decimal_of, digit_in, has_no_leading_zero, number_after, number_of, written}
 use Rattle.rio_token.proofs.DecimalLaws.{decimal_after, decimal_plain, integers_are_read}

@@ -1,7 +1,7 @@
 -- What is spelled with some brackets is spelled where more may be open.
 use Rattle.std.proofs.Common.{ℕ, zero, suc, List, [], ◌∷◌, ◌++◌}
-use Rattle.rio_value.specs.{declared.value.Part.{Part}, declared.value.Value.{Value, out-Value, TheOpen.{Value-F}}}
-use Rattle.rio_value.specs.declared.value.Value.TheOpen as layer
+use Rattle.rio_format.specs.{declared.value.Part.{Part}, declared.value.Value.{Value, out-Value, TheOpen.{Value-F}}}
+use Rattle.rio_format.specs.declared.value.Value.TheOpen as layer
 use Rattle.rio_model.specs.Lexemes.{Lexeme, SpellsItems, SpellsFurther}
 use Rattle.rio_model.specs.ValueSpelling.{Spelling, SpellsAsObject, SpellsBrackets, SpellsLayer, SpellsNamed, SpellsWithin}
 

@@ -2,7 +2,7 @@
 use Rattle.std.proofs.{Common.{◌≡◌, ℕ, pos, List, [], codes, true, ◌==◌, ◌&&◌, Ok, Err, refl, ap, subst}, lemmas.Bool.{and_from, eq-eqb}}
 use Rattle.rio_num.specs.{At.{At}, Reading.{◌>>=◌}, Word.{is_name_text}}
 use Rattle.rio_num.proofs.ReadLaws.{bind_ok, ok_is}
-use Rattle.rio_types.specs.{declared.class.Base.{Base}, declared.class.ClassDef.{ClassDef}, declared.class.Member.{Member}}
+use Rattle.rio_format.specs.{declared.class.Base.{Base}, declared.class.ClassDef.{ClassDef}, declared.class.Member.{Member}}
 use Rattle.rio_token.specs.{Tokens.{standing_in}, Reading.{Read, end_at, keyword_at, list_at, name_at, version_at}}
 use Rattle.rio_model.specs.{ClassText.{text_of_class}, ClassGrammar.{bases_at, checksum_of, class_at, class_of, member_at, only_class, with_counters, with_sum}}
 use Rattle.rio_model.specs.Stated.{ReadClassesAreStated, are_stated_bases, are_stated_members, has_stated_parts, is_class_version, is_stated_class, with_plain_bases}

@@ -3,9 +3,7 @@ use Rattle.std.proofs.Common.{◌≡◌, inl, inr, ℕ, pos, List, codes, Bool, 
 use Rattle.std.specs.Str.{bytes_eq}
 use Rattle.rio_num.specs.{At.{At}, Reading.{◌>>=◌}, Word.{is_name_text}}
 use Rattle.rio_num.proofs.ReadLaws.{bind_ok, chosen, if_is, ok_is}
-use Rattle.rio_types.specs.declared.class.Member.{Member}
-use Rattle.rio_types.specs.declared.kind.Kind.{Kind, TheVariants.{Plain, Counter, Fixed, Counted, Text, Inline, Pointer, Other}}
-use Rattle.rio_types.specs.declared.kind.Primitive.{Primitive}
+use Rattle.rio_format.specs.{declared.class.Member.{Member}, declared.kind.Kind.{Kind, TheVariants.{Plain, Counter, Fixed, Counted, Text, Inline, Pointer, Other}}, declared.kind.Primitive.{Primitive}}
 use Rattle.rio_token.specs.{Tokens.{behind}, Reading.{mark_at, marked, name_at, next_word, num_between_at, some_if, taken_at, version_at, word_that_at}}
 use Rattle.rio_token.specs.Words.{num_between_of, num_of}
 use Rattle.rio_model.specs.ClassGrammar.{counted_by, dimension_of, fixed_or, has_i32, kind_at, plain_at, primitive_at, primitive_of, sized_at}

@@ -4,9 +4,8 @@ use Rattle.std.proofs.{lemmas.Bool.{and_from, and_parts, false_from_ne_true, or_
 use Rattle.std.proofs.{lemmas.Slice.Eq.{bytes_eq-Decides}, Math.Bool.{or-false}}
 use Rattle.std.specs.Str.{bytes_eq}
 use Rattle.rio_num.specs.Word.{is_name_text}
-use Rattle.rio_types.specs.{declared.class.Base.{Base}, declared.class.Member.{Member}}
-use Rattle.rio_types.specs.declared.kind.Kind.{Kind, TheVariants.{Plain, Counter, Fixed, Counted, Text, Inline, Pointer, Other}}
-use Rattle.rio_types.specs.declared.kind.Primitive.{Primitive}
+use Rattle.rio_format.specs.{declared.class.Base.{Base}, declared.class.Member.{Member}, declared.kind.Kind.{Kind, TheVariants.{Plain, Counter, Fixed, Counted, Text, Inline, Pointer, Other}}}
+use Rattle.rio_format.specs.declared.kind.Primitive.{Primitive}
 use Rattle.rio_model.specs.ClassGrammar.{base, counting, counts_by, has_base_named, has_i32, has_member, is_counted_by, is_i32, is_i32_of, with_counters}
 use Rattle.rio_model.specs.Stated.{are_stated_bases, are_stated_members, has_counter, is_stated_base, is_stated_kind, is_stated_member}
 use Rattle.rio_model.proofs.{StatedKinds.{is_raw_kind}, StatedParts.{AllKeep, RawBase, RawMember}}

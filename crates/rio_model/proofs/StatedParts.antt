@@ -3,9 +3,8 @@ use Rattle.std.proofs.Common.{◌≡◌, inl, inr, ℕ, zero, suc, List, [], ◌
 use Rattle.std.proofs.{lemmas.Bool.{and_parts, not-true}, lemmas.List.{append-nil}}
 use Rattle.rio_num.specs.{At.{At}, Reading.{◌>>=◌}, Word.{is_name_text}}
 use Rattle.rio_num.proofs.ReadLaws.{bind_ok, chosen, ok_is}
-use Rattle.rio_types.specs.{declared.class.Base.{Base}, declared.class.Member.{Member}}
+use Rattle.rio_format.specs.{declared.class.Base.{Base}, declared.class.Member.{Member}, Bodies.{member}}
 use Rattle.rio_token.specs.{Tokens.{behind}, Reading.{Read, list_at, mark_at, marked, more_at, some_at, word_that_at}}
-use Rattle.rio_format.specs.Bodies.{member}
 use Rattle.rio_model.specs.ClassGrammar.{base, base_at, bases_at, has_base_named, has_member, kind_at, member_at}
 use Rattle.rio_model.proofs.StatedKinds.{is_raw_kind, kind_ok, word_that_ok}
 

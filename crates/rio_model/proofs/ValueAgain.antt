@@ -3,9 +3,9 @@ use Rattle.std.proofs.Common.{◌≡◌, ℕ, zero, suc, nat_le, length, ℤ, po
 use Rattle.std.proofs.lemmas.Bool.{and_left, and_parts, and_right, eqb-true, false_from_ne_true, not-true, Decides.{nat_tests}}
 use Rattle.std.specs.{List.{list_all}, Option.{option_map}}
 use Rattle.rio_num.specs.{At.{At}, Word.{begins_name, goes_on_name, is_name_text}}
-use Rattle.rio_value.specs.declared.value.Part.{Part}
-use Rattle.rio_value.specs.declared.value.Value.{Value, Int, Bits32, Bits64, Bool as Truth, Text as Chars, List as Items, Object, Pointed, Null, Back, Opaque, out-Value, roll-Value, roll-out-Value, TheOpen.{Value-F}, TheVariants.{rolls-Int, rolls-Bits32, rolls-Bits64, rolls-Bool, rolls-Text, rolls-List, rolls-Object, rolls-Pointed, rolls-Null, rolls-Back}}
-use Rattle.rio_value.specs.declared.value.Value.TheOpen as layer
+use Rattle.rio_format.specs.declared.value.Part.{Part}
+use Rattle.rio_format.specs.declared.value.Value.{Value, Int, Bits32, Bits64, Bool as Truth, Text as Chars, List as Items, Object, Pointed, Null, Back, Opaque, out-Value, roll-Value, roll-out-Value, TheOpen.{Value-F}, TheVariants.{rolls-Int, rolls-Bits32, rolls-Bits64, rolls-Bool, rolls-Text, rolls-List, rolls-Object, rolls-Pointed, rolls-Null, rolls-Back}}
+use Rattle.rio_format.specs.declared.value.Value.TheOpen as layer
 use Rattle.rio_token.specs.{declared.words.Bits.{Bits, TheVariants.{Four, Eight}}, Reading.{Read, marked}, Tokens.{behind}}
 use Rattle.rio_token.specs.Words.{bits_of, decimal as decimal_of, digit_in, has_no_leading_zero, num_of, number_of, written}
 use Rattle.rio_format.specs.Bodies.{part}

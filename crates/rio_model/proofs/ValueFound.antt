@@ -3,9 +3,9 @@ use Rattle.std.proofs.Common.{◌≡◌, ℕ, zero, suc, ◌≤◌, ℤ, pos, Li
 use Rattle.std.proofs.{lemmas.Bool.{and_left, and_right, eqb-true, not_from_false}, lemmas.Slice.Eq.{bytes_eq-Decides}}
 use Rattle.std.specs.Str.{bytes_eq}
 use Rattle.rio_num.specs.{At.{At}, Reading.{◌>>=◌}, Word.{is_name_text}}
-use Rattle.rio_value.specs.declared.value.Part.{Part}
-use Rattle.rio_value.specs.declared.value.Value.{Value, Int, Bits32, Bits64, Bool as Truth, Text as Chars, List as Items, Object, Pointed, Null, Back, out-Value, TheOpen.{Value-F}, TheVariants.{outs-Int, outs-Bits32, outs-Bits64, outs-Bool, outs-Text, outs-List, outs-Object, outs-Pointed, outs-Null, outs-Back}}
-use Rattle.rio_value.specs.declared.value.Value.TheOpen as layer
+use Rattle.rio_format.specs.declared.value.Part.{Part}
+use Rattle.rio_format.specs.declared.value.Value.{Value, Int, Bits32, Bits64, Bool as Truth, Text as Chars, List as Items, Object, Pointed, Null, Back, out-Value, TheOpen.{Value-F}, TheVariants.{outs-Int, outs-Bits32, outs-Bits64, outs-Bool, outs-Text, outs-List, outs-Object, outs-Pointed, outs-Null, outs-Back}}
+use Rattle.rio_format.specs.declared.value.Value.TheOpen as layer
 use Rattle.rio_token.specs.{declared.token.Token.{Token, TheVariants.{Word, Text, Mark, Bad, Cut, End}}, declared.words.Bits.{Bits, TheVariants.{Four, Eight}}}
 use Rattle.rio_token.specs.{Reading.{bad_at, list_at, mark_at, marked, name_at, num_at, string_at, version_at, word_at}, Tokens.{behind, next_at}}
 use Rattle.rio_token.specs.Words.{bits_of, num_of, number_of}

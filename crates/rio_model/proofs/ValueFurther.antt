@@ -1,7 +1,7 @@
 -- The reading of a value goes on in the same text.
 use Rattle.std.proofs.Common.{◌&&◌, ◌==◌, ℕ, zero, suc, ◌-◌, List, Bool, true, false, Option, Some, None}
 use Rattle.rio_num.specs.{At.{At}, Word.{is_name_text}}
-use Rattle.rio_value.specs.declared.value.Value.{Value}
+use Rattle.rio_format.specs.declared.value.Value.{Value}
 use Rattle.rio_token.specs.{declared.token.Token.{Token, TheVariants.{Word, Mark}}, Further.{EndsFurther}}
 use Rattle.rio_token.specs.Marks.{at_sign, closing_brace, closing_bracket, colon, equals_sign, number_sign, opening_brace, opening_bracket}
 use Rattle.rio_token.specs.{Reading.{list_at, mark_at, marked, name_at, num_at, string_at, version_at, word_at}, Tokens.{behind, next_at}}

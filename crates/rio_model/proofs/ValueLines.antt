@@ -3,8 +3,8 @@ use Rattle.std.proofs.Common.{◌≡◌, ℕ, Bool, true, ◌&&◌, List, [], �
 use Rattle.std.specs.{List.{flat_map}, Fmt.{decimal, signed_decimal}}
 use Rattle.byteorder.specs.Endian.{big_bytes}
 use Rattle.rio_num.specs.Printed.{hex_text, name_text}
-use Rattle.rio_value.specs.{declared.value.Value.{Value, roll-Value, map-Value, TheOpen.{Value-F}, TheFolds.{ind-Value}}, declared.value.Part.{Part, Part-F}}
-use Rattle.rio_value.specs.declared.value.Value.TheOpen as layer
+use Rattle.rio_format.specs.{declared.value.Value.{Value, roll-Value, map-Value, TheOpen.{Value-F}, TheFolds.{ind-Value}}, declared.value.Part.{Part, Part-F}}
+use Rattle.rio_format.specs.declared.value.Value.TheOpen as layer
 use Rattle.rio_model.specs.Lists.{separated}
 use Rattle.rio_model.specs.ValueText.{PrintedPart, PrintedValue, between_braces, class_text, label_text, may_be_base, part_text, part_texts, printed_part, printed_value, text_of_value, text_step}
 use Rattle.rio_model.proofs.OneLineLaws.{Line, both, chosen, decimal_line, hex_line, name_line, separated_line, signed_line, string_line}

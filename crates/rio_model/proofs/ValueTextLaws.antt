@@ -1,8 +1,8 @@
 -- The text of a value, by the texts of those in it.
 use Rattle.std.proofs.{Common.{◌≡◌, ℕ, ℤ, List, [], ◌∷◌, ◌++◌, codes, map, refl, sym, ap, ◌∙◌}, lemmas.List.Folds.{flat_map-map}}
-use Rattle.rio_value.specs.declared.value.Value.{Value, List as Items, Object, Pointed, map-Value, roll-Value, TheOpen.{Value-F}, TheVariants.{rolls-List, rolls-Object, rolls-Pointed}, TheFolds.{fold-roll-Value, fold-Part, fold_out-Part}}
-use Rattle.rio_value.specs.declared.value.Part.{Part, Part-F}
-use Rattle.rio_value.specs.declared.value.Value.TheOpen as layer
+use Rattle.rio_format.specs.declared.value.Value.{Value, List as Items, Object, Pointed, map-Value, roll-Value, TheOpen.{Value-F}, TheVariants.{rolls-List, rolls-Object, rolls-Pointed}, TheFolds.{fold-roll-Value, fold-Part, fold_out-Part}}
+use Rattle.rio_format.specs.declared.value.Part.{Part, Part-F}
+use Rattle.rio_format.specs.declared.value.Value.TheOpen as layer
 use Rattle.rio_model.specs.Lists.{separated}
 use Rattle.rio_model.specs.ValueText.{PrintedPart, PrintedValue, between_braces, class_text, label_text, object_text, printed_part, printed_value, text_of_value, text_step}
 

@@ -2,9 +2,9 @@
 use Rattle.std.proofs.Common.{◌≡◌, ◌⊎◌, inl, inr, ℕ, zero, suc, ℤ, pos, List, [], ◌∷◌, ◌++◌, codes, Bool, true, false, ◌==◌, ◌&&◌, not, if◌then◌else◌, Option, Some, None, Ok, Err, refl, sym, ◌∙◌, ap, subst, append_assoc, arith, ◌≤◌}
 use Rattle.std.proofs.lemmas.Bool.{eqb-true}
 use Rattle.rio_num.specs.{At.{At}, Reading.{◌>>=◌}, Word.{is_name_text}}
-use Rattle.rio_value.specs.declared.value.Part.{Part}
-use Rattle.rio_value.specs.declared.value.Value.{Value, Text as Chars, List as Items, Object, Pointed, Null, Back, out-Value, TheOpen.{Value-F}, TheVariants.{outs-Text, outs-List, outs-Object, outs-Pointed, outs-Null, outs-Back}}
-use Rattle.rio_value.specs.declared.value.Value.TheOpen as layer
+use Rattle.rio_format.specs.declared.value.Part.{Part}
+use Rattle.rio_format.specs.declared.value.Value.{Value, Text as Chars, List as Items, Object, Pointed, Null, Back, out-Value, TheOpen.{Value-F}, TheVariants.{outs-Text, outs-List, outs-Object, outs-Pointed, outs-Null, outs-Back}}
+use Rattle.rio_format.specs.declared.value.Value.TheOpen as layer
 use Rattle.rio_token.specs.{declared.fault.TextFault.{TextFault}, declared.token.Token.{Token, TheVariants.{Word, Text, Mark, Bad, Cut, End}}}
 use Rattle.rio_token.specs.{Reading.{bad_at, list_at, mark_at, marked, name_at, num_at, string_at, version_at, word_at}, Tokens.{behind, next_at}}
 use Rattle.rio_token.specs.Words.{decimal as decimal_of, num_of, written}

@@ -6,14 +6,12 @@
 use Rattle.std.specs.Prelude.{ℕ, ◌+◌, ◌*◌, ◌%◌, ◌^◌, pos, List, [], codes, map, Option, Some, None, option_and_then, Result, Ok, Err, Bool, true, false, ◌&&◌, not, if◌then◌else◌}
 use Rattle.std.specs.{List.{fold, list_any}, Str.{bytes_eq}}
 use Rattle.rio_num.specs.{At.{At}, Reading.{◌>>=◌}, Word.{is_name_text}}
-use Rattle.rio_types.specs.{declared.class.Base.{Base}, declared.class.ClassDef.{ClassDef}, declared.class.Member.{Member}}
-use Rattle.rio_types.specs.declared.kind.Kind.{Kind, TheVariants.{Plain, Counter, Fixed, Counted, Text, Inline, Pointer}}
-use Rattle.rio_types.specs.declared.kind.Primitive.{Primitive, TheVariants.{I8, I16, I32, I64, U8, U16, U32, U64, Bool as Truth, F32, F64}}
+use Rattle.rio_format.specs.{declared.class.Base.{Base}, declared.class.ClassDef.{ClassDef}, declared.class.Member.{Member}, declared.kind.Kind.{Kind, TheVariants.{Plain, Counter, Fixed, Counted, Text, Inline, Pointer}}}
+use Rattle.rio_format.specs.{declared.kind.Primitive.{Primitive, TheVariants.{I8, I16, I32, I64, U8, U16, U32, U64, Bool as Truth, F32, F64}}, Bodies.{member}}
 use Rattle.rio_token.specs.{declared.fault.TextFault.{TextFault}, Further.{EndsFurther}}
 use Rattle.rio_token.specs.{Marks.{asterisk, closing_brace, closing_bracket, colon, opening_brace, opening_bracket}, Tokens.{behind, standing_in}}
 use Rattle.rio_token.specs.Words.{num_between_of}
 use Rattle.rio_token.specs.Reading.{Read, taken_at, some_if, next_word, marked, mark_at, name_at, word_that_at, keyword_at, version_at, end_at, list_at, some_at}
-use Rattle.rio_format.specs.Bodies.{member}
 use Rattle.rio_model.specs.ClassText.{text_of_class}
 
 -- ---- kinds

@@ -2,8 +2,7 @@
 -- the blanks between their tokens.
 use Rattle.std.specs.Prelude.{◌≡◌, ℕ, pos, List, [], ◌∷◌, ◌++◌, codes, Ok, Some, None, Bool, true, not, ◌&&◌}
 use Rattle.rio_num.specs.{At.{At}, Word.{is_name_text}}
-use Rattle.rio_types.specs.{declared.class.Base.{Base}, declared.class.ClassDef.{ClassDef}, declared.class.Member.{Member}}
-use Rattle.rio_types.specs.declared.kind.Kind.{Kind, TheVariants.{Plain, Fixed, Counted, Text, Inline, Pointer}}
+use Rattle.rio_format.specs.{declared.class.Base.{Base}, declared.class.ClassDef.{ClassDef}, declared.class.Member.{Member}, declared.kind.Kind.{Kind, TheVariants.{Plain, Fixed, Counted, Text, Inline, Pointer}}}
 use Rattle.rio_token.specs.{declared.token.Token.TheVariants.{End}, Marks.{asterisk, closing_brace, closing_bracket, colon, opening_brace, opening_bracket}}
 use Rattle.rio_token.specs.{Reading.{marked}, Tokens.{behind, next_at}, Words.{num_between_of}}
 use Rattle.rio_model.specs.{ClassGrammar.{class_at, class_of, has_i32, is_new_base, is_new_member}, ClassText.{primitive_text}}

@@ -2,8 +2,7 @@
 use Rattle.std.specs.Prelude.{ℕ, zero, suc, ◌+◌, ℤ, pos, List, [], ◌∷◌, ◌++◌, length, map, Bool, true, false, not, ◌&&◌, ◌||◌, ◌==◌, nat_le, Option, Some, None, is_some, if◌then◌else◌, IsTrue, ◌↔◌}
 use Rattle.std.specs.{List.{list_all, list_any}, Option.{option_map_or, option_or}, Str.{bytes_eq}}
 use Rattle.rio_leaf.specs.declared.branch.Shape.{Shape, TheVariants.{Leaves, Class}}
-use Rattle.rio_types.specs.{Classes.{find_in, newest_in}, declared.class.Base.{Base}, declared.class.ClassDef.{ClassDef}}
-use Rattle.rio_types.specs.declared.kind.Kind.{Kind, TheVariants.{Inline, Pointer}}
+use Rattle.rio_format.specs.{Classes.{find_in, newest_in}, declared.class.Base.{Base}, declared.class.ClassDef.{ClassDef}, declared.kind.Kind.{Kind, TheVariants.{Inline, Pointer}}}
 use Rattle.rio_format.specs.{Bodies.{headed_class, row_of}, declared.built_in.BuiltIn.TheVariants.{Named, Object}}
 use Rattle.rio_model.specs.declared.declare.DeclareFault.{DeclareFault, TheVariants.{NoSuchClass, SameVersion, HoldsItself, TooMany}}
 

@@ -1,11 +1,8 @@
 -- The class list that is written for classes, read again.
 use Rattle.std.specs.{Prelude.{◌≡◌, ◌≤◌, ℕ, ◌+◌, ◌-◌, ◌*◌, ◌^◌, codes, List, ◌++◌, length, Ok, Bool, true, ◌==◌, ◌&&◌, nat_lt, IsTrue}, List.{list_all}}
-use Rattle.rio_types.specs.{declared.class.Base.{Base}, declared.class.ClassDef.{ClassDef}, declared.class.Member.{Member}}
-use Rattle.rio_types.specs.declared.kind.Kind.{Kind, TheVariants.{Fixed, Other}}
-use Rattle.rio_value.specs.Depth.{depth_of}
+use Rattle.rio_format.specs.{declared.class.Base.{Base}, declared.class.ClassDef.{ClassDef}, declared.class.Member.{Member}, declared.kind.Kind.{Kind, TheVariants.{Fixed, Other}}, Depth.{depth_of}}
 use Rattle.rio_format.specs.{ClassList.{class_list_at, classes_of}, Descriptions.{description_classes}, Fits.{Fits, fits_signed}, Laws.{has_versions}}
-use Rattle.rio_format.specs.{Objects.{SpellsObject, depth_limit, value_at}, Prims.{width_of}, TreeClasses.{tree_classes, written_classes}}
-use Rattle.rio_format.specs.{WrittenBytes.{class_list_bytes}, WrittenList.{class_list_value}}
+use Rattle.rio_format.specs.{Objects.{SpellsObject, depth_limit, value_at}, Prims.{width_of}, TreeClasses.{tree_classes, written_classes}, WrittenBytes.{class_list_bytes}, WrittenList.{class_list_value}}
 use Rattle.rio_model.specs.{ClassGrammar.{checksum_of}, Stated.{has_stated_parts, is_stated_class}}
 
 abbrev pub is_base_number : Base → Bool

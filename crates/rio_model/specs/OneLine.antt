@@ -1,7 +1,6 @@
 -- Texts of one line.
 use Rattle.std.specs.{Prelude.{ℕ, ◌≤◌, List}, List.{All}}
-use Rattle.rio_types.specs.declared.class.ClassDef.{ClassDef}
-use Rattle.rio_value.specs.declared.value.Value.{Value}
+use Rattle.rio_format.specs.{declared.class.ClassDef.{ClassDef}, declared.value.Value.{Value}}
 use Rattle.rio_model.specs.{ClassText.{text_of_class}, ValueText.{text_of_value}}
 
 -- no line feed, and no other byte below a space

@@ -1,10 +1,9 @@
 -- Values with the versions that they leave open: an object of version 0 is of the version that its class has there.
 use Rattle.std.specs.Prelude.{◌≡◌, ℕ, ℤ, pos, List, [], ◌∷◌, length, map, Bool, true, false, ◌==◌, ◌&&◌, ◌||◌, not, IsTrue, Option, Some, None, is_some, option_and_then, find, if◌then◌else◌}
 use Rattle.std.specs.{List.{list_all}, Option.{option_map, option_map_or, option_or}, Ordering.{int_eq}, Str.{bytes_eq}}
-use Rattle.rio_types.specs.{Classes.{find_in, newest_in}, declared.class.Base.{Base}, declared.class.ClassDef.{ClassDef}}
-use Rattle.rio_value.specs.declared.value.Part.{Part}
-use Rattle.rio_value.specs.declared.value.Value.{Value, TheOpen.{Value-F, Int, Bits32, Bits64, Bool as Truth, Text, List as Items, Object, Pointed, Null, Back, Opaque}, TheFolds.{fold-Value}}
-use Rattle.rio_value.specs.declared.value.Value as whole
+use Rattle.rio_format.specs.{Classes.{find_in, newest_in}, declared.class.Base.{Base}, declared.class.ClassDef.{ClassDef}, declared.value.Part.{Part}}
+use Rattle.rio_format.specs.declared.value.Value.{Value, TheOpen.{Value-F, Int, Bits32, Bits64, Bool as Truth, Text, List as Items, Object, Pointed, Null, Back, Opaque}, TheFolds.{fold-Value}}
+use Rattle.rio_format.specs.declared.value.Value as whole
 use Rattle.rio_format.specs.{Bodies.{form_of, headed_version, part}, Slots.{body_bases, headed_body, is_headed}}
 
 -- ---- versions

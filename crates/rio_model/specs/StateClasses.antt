@@ -1,7 +1,6 @@
 -- The classes of a state: those that class commands have declared, one after the other, from no classes on.
 use Rattle.std.specs.Prelude.{◌≡◌, ◌≤◌, ℕ, List, [], ◌∷◌, ◌++◌, length, not, IsTrue, None}
-use Rattle.rio_types.specs.declared.class.ClassDef.{ClassDef}
-use Rattle.rio_format.specs.WrittenBytes.{length_limit, written_list}
+use Rattle.rio_format.specs.{declared.class.ClassDef.{ClassDef}, WrittenBytes.{length_limit, written_list}}
 use Rattle.rio_model.specs.{Declaring.{declare_fault, declared, is_reserved_name}, Stated.{is_stated_class}}
 
 -- a class command declares the class behind these: a declaration can give it, no rule forbids it, and each of its bases has

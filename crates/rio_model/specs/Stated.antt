@@ -2,9 +2,8 @@
 use Rattle.std.specs.Prelude.{◌≡◌, Ok, map, ℕ, ℤ, pos, int_le, List, [], ◌∷◌, ◌++◌, codes, length, nat_le, Option, Some, None, Bool, true, false, ◌==◌, ◌&&◌, not}
 use Rattle.std.specs.{List.{list_any}, Str.{bytes_eq}}
 use Rattle.rio_num.specs.Word.{is_name_text}
-use Rattle.rio_types.specs.{declared.class.Base.{Base}, declared.class.ClassDef.{ClassDef}, declared.class.Member.{Member}}
-use Rattle.rio_types.specs.declared.kind.Kind.{Kind, TheVariants.{Plain, Counter, Fixed, Counted, Text, Inline, Pointer, Other}}
-use Rattle.rio_types.specs.{declared.kind.Primitive.{Primitive}, Members.{is_counter}}
+use Rattle.rio_format.specs.{declared.class.Base.{Base}, declared.class.ClassDef.{ClassDef}, declared.class.Member.{Member}}
+use Rattle.rio_format.specs.{declared.kind.Kind.{Kind, TheVariants.{Plain, Counter, Fixed, Counted, Text, Inline, Pointer, Other}}, declared.kind.Primitive.{Primitive}, Members.{is_counter}}
 use Rattle.rio_model.specs.ClassText.{text_of_class}
 use Rattle.rio_model.specs.ClassGrammar.{base, checksum_of, class_in, has_base_named, has_member, is_counted_by, is_i32_of, primitive_of}
 

@@ -7,14 +7,12 @@
 use Rattle.std.specs.Prelude.{ℕ, zero, suc, ◌-◌, ℤ, pos, List, [], codes, Option, Some, None, Result, Ok, Err, Bool, true, false, ◌==◌, ◌&&◌, ◌||◌, if◌then◌else◌}
 use Rattle.std.specs.Str.{bytes_eq}
 use Rattle.rio_num.specs.{At.{At}, Reading.{◌>>=◌}, Word.{is_name_text}}
-use Rattle.rio_value.specs.declared.value.Value.{Value, Int, Bits32, Bits64, Bool as Truth, Text as Chars, List as Items, Object, Pointed, Null, Back}
-use Rattle.rio_value.specs.declared.value.Part.{Part}
+use Rattle.rio_format.specs.{declared.value.Value.{Value, Int, Bits32, Bits64, Bool as Truth, Text as Chars, List as Items, Object, Pointed, Null, Back}, declared.value.Part.{Part}, Bodies.{part}}
 use Rattle.rio_token.specs.{declared.token.Token.{Token, TheVariants.{Word, Mark}}, declared.fault.TextFault.{TextFault}}
 use Rattle.rio_token.specs.{declared.words.Bits.{Bits, TheVariants.{Four, Eight}}, Further.{EndsFurther}}
 use Rattle.rio_token.specs.Marks.{at_sign, closing_brace, closing_bracket, colon, equals_sign, number_sign, opening_brace, opening_bracket}
 use Rattle.rio_token.specs.{Tokens.{next_at, behind, standing_in}, Words.{number_of, bits_of}}
 use Rattle.rio_token.specs.Reading.{Read, bad_at, marked, mark_at, word_at, name_at, num_at, version_at, string_at, list_at}
-use Rattle.rio_format.specs.Bodies.{part}
 
 -- ---- words
 

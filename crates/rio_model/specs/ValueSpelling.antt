@@ -2,8 +2,7 @@
 -- tokens and in the escapes of their strings. An object of version 0 is one whose version is left out.
 use Rattle.std.specs.Prelude.{◌≡◌, ℕ, zero, suc, ◌≤◌, ℤ, pos, negsuc, List, [], ◌∷◌, ◌++◌, codes, Some, Ok, Bool, true, false, not}
 use Rattle.rio_num.specs.{At.{At}, Word.{is_name_text}}
-use Rattle.rio_value.specs.declared.value.Part.{Part}
-use Rattle.rio_value.specs.declared.value.Value.{Value, out-Value, TheOpen.{Value-F, Int, Bits32, Bits64, Bool as Truth, Text, List as Items, Object, Pointed, Null, Back, Opaque}}
+use Rattle.rio_format.specs.{declared.value.Part.{Part}, declared.value.Value.{Value, out-Value, TheOpen.{Value-F, Int, Bits32, Bits64, Bool as Truth, Text, List as Items, Object, Pointed, Null, Back, Opaque}}}
 use Rattle.rio_token.specs.declared.words.Bits.TheVariants.{Four, Eight}
 use Rattle.rio_token.specs.{Marks.{at_sign, closing_brace, closing_bracket, colon, equals_sign, number_sign, opening_brace, opening_bracket}, Reading.{marked}}
 use Rattle.rio_token.specs.Words.{bits_of, num_of, number_of}

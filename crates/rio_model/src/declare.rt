@@ -4,6 +4,9 @@ ghost use Rattle.rio_model.specs.Declaring.{HoldingIsReaching};
 use rio_num::NoMemory;
 use thiserror::Error;
 
+/// The most classes that are declared, each version counting as one.
+pub const CLASS_LIMIT: usize = 4_096;
+
 /// Why a class can't be declared: the first rule that it breaks.
 #[derive(Clone, Copy, Debug, PartialEq, Eq, Error)]
 pub enum DeclareFault {

@@ -21,7 +21,7 @@ mod read_laws;
 mod spelling_laws;
 
 pub use class_laws::{read_classes_are_spelled, spelled_classes_are_read};
-pub use declare::{DeclareFault, holding_is_reaching};
+pub use declare::{CLASS_LIMIT, DeclareFault, holding_is_reaching};
 pub use laws::texts_are_one_line;
 pub use list_laws::{
     described_have_numbers, descriptions_have_sums, tree_classes_are_stated,

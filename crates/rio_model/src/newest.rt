@@ -2,8 +2,7 @@
 ghost use Rattle.std.specs.Prelude.{◌≡◌};
 ghost use Rattle.rio_model.specs.Resolving.{built_in_version, newest_known};
 
-use rio_format::{headed_version, is_headed};
-use rio_types::Classes;
+use rio_format::{Classes, headed_version, is_headed};
 
 /// The one version of a built-in class.
 pub fn built_in_version(class: &[u8]) -> Option<i32>

@@ -2,9 +2,7 @@
 use Rattle.std.proofs.Common.{◌≡◌, ℕ, ◌+◌, ◌<◌, ◌≤◌, List, [], ◌∷◌, ◌++◌, length, drop, slice_index_or, Result, Ok, Err, refl, sym, ap, ◌∙◌, append_assoc}
 use Rattle.std.proofs.lemmas.List.{append-nil, drop_more, drop_all}
 use Rattle.rio_num.specs.{Reading.{◌>>=◌}, Layout.{each}, Meanings.{read}}
-use Rattle.rio_buffer.specs.{Frames.{ObjLayout, Step}, ReaderState.{ReaderState}, declared.fault.ObjFault.{ObjFault}}
-use Rattle.rio_types.specs.{declared.class.Member.{Member}, declared.kind.Kind.TheVariants.{Counter}}
-use Rattle.rio_value.specs.declared.value.Part.{Part}
+use Rattle.rio_format.specs.{Frames.{ObjLayout, Step}, ReaderState.{ReaderState}, declared.fault.ObjFault.{ObjFault}, declared.class.Member.{Member}, declared.kind.Kind.TheVariants.{Counter}, declared.value.Part.{Part}}
 use Rattle.rio_format.specs.{Bodies.{Counters, counters_with}, Objects.{Objects, kind_value, member_part, member_parts}}
 use Rattle.rio_read.specs.{Lists.{with_front}, Members.{counter_part}}
 

@@ -1,9 +1,7 @@
 -- The fault that reading gives is the first one of the bytes.
 use Rattle.std.proofs.Common.{◌≡◌, ℕ, List, Result, Ok, Err, sym, ap, subst, ◌∙◌}
 use Rattle.rio_num.specs.{Answers.{TellsUnless}, At.{AreBytes}, Meanings.{read}}
-use Rattle.rio_types.specs.declared.class.ClassDef.{ClassDef}
-use Rattle.rio_value.specs.declared.value.Value.{Value}
-use Rattle.rio_buffer.specs.{ReaderState.{ReaderState}, declared.fault.ObjFault.{ObjFault, TheVariants.{NoMemory}}}
+use Rattle.rio_format.specs.{declared.class.ClassDef.{ClassDef}, declared.value.Value.{Value}, ReaderState.{ReaderState}, declared.fault.ObjFault.{ObjFault, TheVariants.{NoMemory}}}
 use Rattle.rio_format.specs.Objects.{BreaksObject, depth_limit, object_of, only_value, value_at}
 use Rattle.rio_format.proofs.ObjectLaws.{broken_is_fault, fault_is_broken, not_both}
 use Rattle.rio_num.proofs.Agree as Agree

@@ -2,13 +2,11 @@
 use Rattle.std.proofs.Common.{◌≡◌, ℕ, ℤ, suc, ◌+◌, ◌-◌, ◌<◌, ◌≤◌, false, List, [], length, drop, slice_index_or, Result, Ok, Err, refl, sym, ap, ◌∙◌, arith}
 use Rattle.std.proofs.lemmas.List.{drop_more, drop_all}
 use Rattle.rio_num.specs.{Reading.{◌>>=◌}, Meanings.{read}, Layout.{each, text, times}}
-use Rattle.rio_types.specs.{declared.class.Base.{Base}, declared.class.ClassDef.{ClassDef}, declared.class.Member.{Member}}
-use Rattle.rio_types.specs.{declared.kind.Kind.TheVariants.{Counter}, declared.kind.Primitive.TheVariants.{I32}, Members.{is_counter}}
-use Rattle.rio_value.specs.declared.value.Part.{Part}
-use Rattle.rio_value.specs.declared.value.Value.TheOpen as layer
-use Rattle.rio_buffer.specs.{Frames.{ObjLayout, Step, finish, pointer_word}, ReaderState.{ReaderState}, declared.fault.ObjFault.{ObjFault, TheVariants.{Short}}}
-use Rattle.rio_buffer.specs.{declared.words.Header.{Header}, declared.words.PointerWord.{PointerWord, TheVariants.{New}}}
-use Rattle.rio_format.specs.Bodies.{Counters, t_named, t_obj_string}
+use Rattle.rio_format.specs.{declared.class.Base.{Base}, declared.class.ClassDef.{ClassDef}, declared.class.Member.{Member}}
+use Rattle.rio_format.specs.{declared.kind.Kind.TheVariants.{Counter}, declared.kind.Primitive.TheVariants.{I32}, Members.{is_counter}, declared.value.Part.{Part}}
+use Rattle.rio_format.specs.declared.value.Value.TheOpen as layer
+use Rattle.rio_format.specs.{Frames.{ObjLayout, Step, finish, pointer_word}, ReaderState.{ReaderState}, declared.fault.ObjFault.{ObjFault, TheVariants.{Short}}}
+use Rattle.rio_format.specs.{declared.words.Header.{Header}, declared.words.PointerWord.{PointerWord, TheVariants.{New}}, Bodies.{Counters, t_named, t_obj_string}}
 use Rattle.rio_format.specs.Objects.{Objects, array_parts, base_object, base_part, closed, count_of, kind_value, link, list_parts, member_part, member_parts, number_value, parts, pointed, pointer, text_value, whole_object}
 use Rattle.rio_format.proofs.ValueCases.{out_int}
 use Rattle.rio_read.specs.Passing.{counted_member, pass_of_new, counters_with_next, pass_of}

@@ -2,9 +2,7 @@
 use Rattle.std.proofs.Common.{◌≡◌, inl, inr, ℕ, zero, suc, ◌/◌, Bool, true, false, ltb, ◌+◌, ◌-◌, ◌*◌, ◌<◌, ◌≤◌, List, ◌∷◌, length, drop, Result, Ok, Err, refl, sym, ap, subst, ◌∙◌, arith}
 use Rattle.std.proofs.{Math.Nat.{div-mul-le_self, le-div_iff_mul-le, suc-mul}, lemmas.Bool.{lt-ltb, le-ltb, cases_lt}, lemmas.List.{length-drop, drop-drop}}
 use Rattle.rio_num.specs.{Reading.{skip}, Meanings.{read}, Layout.{any, each, times}}
-use Rattle.rio_types.specs.declared.kind.Primitive.{Primitive}
-use Rattle.rio_value.specs.declared.value.Value.{Value}
-use Rattle.rio_buffer.specs.{Frames.{ReadsAs, Step}, Reader.{TakesStep}, ReaderState.{ReaderState}, declared.fault.ObjFault.{ObjFault, TheVariants.{Short}}}
+use Rattle.rio_format.specs.{declared.kind.Primitive.{Primitive}, declared.value.Value.{Value}, Frames.{ReadsAs, Step}, Reader.{TakesStep}, ReaderState.{ReaderState}, declared.fault.ObjFault.{ObjFault, TheVariants.{Short}}}
 use Rattle.rio_format.specs.{Objects.{number_value}, Prims.{value_of_prim, width_of}}
 use Rattle.byteorder.specs.Endian.{big_number}
 use Rattle.rio_read.specs.Passing.{pass_of}

@@ -1,9 +1,7 @@
 -- What is read of data, and what spells it.
 use Rattle.std.proofs.{Common.{◌≡◌, ℕ, ◌+◌, ◌≤◌, List, ◌++◌, length, Result, Ok, Err, refl, ap, subst, IfOk, arith}, lemmas.List.{length-append}}
-use Rattle.rio_types.specs.declared.class.ClassDef.{ClassDef}
-use Rattle.rio_value.specs.declared.value.Value.{Value}
+use Rattle.rio_format.specs.{declared.class.ClassDef.{ClassDef}, declared.value.Value.{Value}, Frames.{Step, ReadsAs}, ReaderState.{ReaderState, standing}, declared.fault.ObjFault.{ObjFault}}
 use Rattle.rio_num.specs.{At.{AreBytes}, Meanings.{read}}
-use Rattle.rio_buffer.specs.{Frames.{Step, ReadsAs}, ReaderState.{ReaderState, standing}, declared.fault.ObjFault.{ObjFault}}
 use Rattle.rio_format.specs.Objects.{SpellsObject, depth_limit, first_at, object_of, only_value, value_at}
 use Rattle.rio_num.proofs.Agree as Agree
 use Rattle.rio_format.proofs.ObjectLaws.{read_is_spelled, spelled_is_read}

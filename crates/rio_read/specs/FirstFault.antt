@@ -1,10 +1,7 @@
 -- What a reader of objects returns where the bytes break a rule.
 use Rattle.std.specs.Prelude.{ℕ, List, Result, Err}
-use Rattle.rio_types.specs.declared.class.ClassDef.{ClassDef}
-use Rattle.rio_value.specs.declared.value.Value.{Value}
-use Rattle.rio_buffer.specs.{ReaderState.{ReaderState}, declared.fault.ObjFault.{ObjFault}}
+use Rattle.rio_format.specs.{declared.class.ClassDef.{ClassDef}, declared.value.Value.{Value}, ReaderState.{ReaderState}, declared.fault.ObjFault.{ObjFault}, Objects.{depth_limit, object_of}}
 use Rattle.rio_num.specs.Meanings.{Breaks}
-use Rattle.rio_format.specs.Objects.{depth_limit, object_of}
 use Rattle.rio_read.specs.Reading.{Answers}
 
 -- the bytes that are left break with this fault as an object of the class, behind what was met before

@@ -1,9 +1,7 @@
 -- Parts of an object, for the readers of this crate.
 use Rattle.std.specs.Prelude.{ℕ, List, [], ◌∷◌, Option, Some, None}
-use Rattle.rio_types.specs.declared.kind.Primitive.TheVariants.{I32}
-use Rattle.rio_value.specs.declared.{value.Part.{Part}, value.Value.{Value, List as Items, Text}}
+use Rattle.rio_format.specs.{declared.kind.Primitive.TheVariants.{I32}, declared.value.Part.{Part}, declared.value.Value.{Value, List as Items, Text}, Frames.{ObjLayout}, declared.fault.ObjFault.TheVariants.{Short}}
 use Rattle.rio_num.specs.Layout.{done, text, ◌>>=◌}
-use Rattle.rio_buffer.specs.{Frames.{ObjLayout}, declared.fault.ObjFault.TheVariants.{Short}}
 use Rattle.rio_format.specs.{Bodies.{part}, Objects.{number_value, pid_part}}
 
 -- a counter of this name

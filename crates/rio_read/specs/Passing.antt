@@ -1,9 +1,7 @@
 -- What is read and isn't kept.
 use Rattle.std.specs.{Prelude.{ℕ, List, ◌∷◌}, Int.{w32, cast_signed}}
-use Rattle.rio_types.specs.declared.class.Member.{Member}
-use Rattle.rio_buffer.specs.{Frames.{ObjLayout, finish}, declared.fault.ObjFault.TheVariants.{Short}}
+use Rattle.rio_format.specs.{declared.class.Member.{Member}, Frames.{ObjLayout, finish}, declared.fault.ObjFault.TheVariants.{Short}, Bodies.{Counters, counters_with}, Objects.{Objects, member_part}}
 use Rattle.rio_num.specs.Layout.{done, number, ◌>>=◌}
-use Rattle.rio_format.specs.{Bodies.{Counters, counters_with}, Objects.{Objects, member_part}}
 
 -- what a description says, of which nothing is kept
 abbrev pub pass_of : {A : Type 0} → ObjLayout A → ObjLayout (Unit {0})

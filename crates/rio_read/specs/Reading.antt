@@ -1,8 +1,6 @@
 -- What the readers of objects answer.
 use Rattle.std.specs.Prelude.{◌≡◌, ℕ, ◌+◌, List, ◌++◌, length, Result, Ok}
-use Rattle.rio_types.specs.declared.class.ClassDef.{ClassDef}
-use Rattle.rio_value.specs.declared.value.Value.{Value}
-use Rattle.rio_buffer.specs.{Frames.{ReadsAs}, ReaderState.{ReaderState, WordsMet, standing}, declared.fault.ObjFault.{ObjFault, TheVariants.{NoMemory}}}
+use Rattle.rio_format.specs.{declared.class.ClassDef.{ClassDef}, declared.value.Value.{Value}, Frames.{ReadsAs}, ReaderState.{ReaderState, WordsMet, standing}, declared.fault.ObjFault.{ObjFault, TheVariants.{NoMemory}}}
 use Rattle.rio_num.specs.{Answers.{GivesUnless}, Meanings.{HasTaken, Spells, read}}
 use Rattle.rio_format.specs.Objects.{SpellsObject, depth_limit, object_of}
 

@@ -1,19 +1,13 @@
 //! Objects without a header.
 ghost use Rattle.std.specs.Prelude.{◌≡◌, ◌∷◌, ◌++◌, [], pos, codes, IfOk};
 ghost use Rattle.rio_num.specs.At.{GoesOn};
-ghost use Rattle.rio_format.specs.Bodies.{part};
-ghost use Rattle.rio_buffer.specs.Frames.{ReadsAs};
-ghost use Rattle.rio_format.specs.Objects.{number_array, bare_layout, bare_object, object_of};
+ghost use Rattle.rio_format.specs.{Bodies.{part}, Frames.{ReadsAs}, Objects.{number_array, bare_layout, bare_object, object_of}, declared.value.Value.{Int, Object}};
 ghost use Rattle.rio_num.specs.Meanings.{read};
-ghost use Rattle.rio_value.specs.declared.value.Value.{Int, Object};
 ghost use Rattle.rio_read.specs.Members.{pid_parts};
 
 use crate::numbers::{read_count, read_numbers};
-use rio_buffer::{ObjFault, ObjReader};
-use rio_format::{part_with, width_of};
+use rio_format::{Classes, ObjFault, ObjReader, Parts, Prim, Value, part_with, width_of};
 use rio_num::{Name, NoMemory};
-use rio_types::{Classes, Prim};
-use rio_value::{Parts, Value};
 use std::alloc::Global;
 
 fn bare_parts(alloc: Global, id: u32, bits: u32) -> Result<Parts, NoMemory>

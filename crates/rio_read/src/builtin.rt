@@ -1,19 +1,13 @@
 //! The parts of built-in classes with a header.
 ghost use Rattle.std.specs.Prelude.{◌≡◌, [], ◌∷◌, codes, IfOk};
 ghost use Rattle.rio_num.specs.At.{GoesOn};
-ghost use Rattle.rio_format.specs.Bodies.{part, t_named, t_obj_string};
-ghost use Rattle.rio_buffer.specs.Frames.{ReadsAs};
-ghost use Rattle.rio_format.specs.Objects.{object_of, parts};
+ghost use Rattle.rio_format.specs.{Bodies.{part, t_named, t_obj_string}, Frames.{ReadsAs}, Objects.{object_of, parts}, declared.value.Value.{Text, List as Listing}};
 ghost use Rattle.rio_num.specs.Meanings.{read};
-ghost use Rattle.rio_value.specs.declared.value.Value.{Text, List as Listing};
 
 use crate::bare::read_base;
 use crate::numbers::read_name;
-use rio_buffer::{ObjFault, ObjReader};
-use rio_format::part_with;
+use rio_format::{Classes, ObjFault, ObjReader, Parts, Value, Values, part_with};
 use rio_num::{Name, NoMemory};
-use rio_types::Classes;
-use rio_value::{Parts, Value, Values};
 use std::alloc::Global;
 
 fn named_parts(alloc: Global, base: Value, name: Name, title: Name) -> Result<Parts, NoMemory>

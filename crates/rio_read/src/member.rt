@@ -1,16 +1,12 @@
 //! Parts of objects and items of lists.
 ghost use Rattle.std.specs.Prelude.{◌≡◌, [], ◌∷◌, IfOk};
 ghost use Rattle.rio_num.specs.At.{GoesOn};
-ghost use Rattle.rio_value.specs.Accessors.{number_in};
-ghost use Rattle.rio_buffer.specs.Frames.{ReadsAs};
-ghost use Rattle.rio_value.specs.declared.value.Value.{out-Value, Text, List as Listing};
+ghost use Rattle.rio_format.specs.{Accessors.{number_in}, Frames.{ReadsAs}, declared.value.Value.{out-Value, Text, List as Listing}};
 ghost use Rattle.rio_num.specs.Meanings.{read};
 ghost use Rattle.rio_read.specs.Members.{counter_part};
 
-use rio_buffer::{ObjFault, ObjReader};
-use rio_format::Counters;
+use rio_format::{Counters, ObjFault, ObjReader, Part, Value, Values};
 use rio_num::{Name, NoMemory};
-use rio_value::{Part, Value, Values};
 use std::alloc::Global;
 
 /// An item of a TList: a pointer and an option.

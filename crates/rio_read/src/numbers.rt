@@ -1,16 +1,12 @@
 //! Numbers, and lists of them.
 ghost use Rattle.std.specs.Prelude.{◌<◌};
 ghost use Rattle.rio_num.specs.At.{GoesOn};
-ghost use Rattle.rio_buffer.specs.Frames.{ReadsAs};
-ghost use Rattle.rio_format.specs.Objects.{count_of, counted_values, filled, number_value, numbers, text_value};
+ghost use Rattle.rio_format.specs.{Frames.{ReadsAs}, Objects.{count_of, counted_values, filled, number_value, numbers, text_value}};
 ghost use Rattle.rio_num.specs.Layout.{text, times};
 ghost use Rattle.rio_num.specs.Meanings.{read};
 
-use rio_buffer::{ObjFault, ObjReader};
-use rio_format::width_of;
+use rio_format::{ObjFault, ObjReader, Prim, Value, Values, width_of};
 use rio_num::Name;
-use rio_types::Prim;
-use rio_value::{Value, Values};
 use std::alloc::Global;
 
 /// The next number, or truth value, of this kind.

@@ -2,26 +2,20 @@
 //! objects inside.
 ghost use Rattle.std.specs.Prelude.{◌≡◌, [], IfErr, IfOk};
 ghost use Rattle.rio_num.specs.At.{AreBytes, GoesOn};
-ghost use Rattle.rio_format.specs.Bodies.{form_of, body_of, counters_with};
-ghost use Rattle.rio_buffer.specs.Frames.{ReadsAs};
-ghost use Rattle.rio_format.specs.Objects.{array_parts, base_part, body, formed, headed, kind_value, link, list_parts, member_part, member_parts, object_of, parts, pointer};
+ghost use Rattle.rio_format.specs.{Bodies.{form_of, body_of, counters_with}, Frames.{ReadsAs}};
+ghost use Rattle.rio_format.specs.{Objects.{array_parts, base_part, body, formed, headed, kind_value, link, list_parts, member_part, member_parts, object_of, parts, pointer}, Reader.{IsCounted}, declared.value.Value.{Pointed}};
 ghost use Rattle.rio_num.specs.Layout.{each, times};
 ghost use Rattle.rio_num.specs.Meanings.{read};
-ghost use Rattle.rio_buffer.specs.Reader.{IsCounted};
 ghost use Rattle.rio_read.specs.Lists.{with_front};
 ghost use Rattle.rio_read.specs.Members.{link_behind};
-ghost use Rattle.rio_value.specs.declared.value.Value.{Pointed};
 
 use crate::bare::{read_array, read_bare, read_base};
 use crate::builtin::{array_parts, list_parts, read_named_parts, read_obj_string_parts};
 use crate::member::{link, read_counter};
 use crate::numbers::{read_count, read_counted, read_name, read_number, read_numbers, read_text};
 use crate::whole::{read_opaque, whole, whole_described};
-use rio_buffer::{Header, ObjFault, ObjReader, PointerWord};
-use rio_format::{BodyKind, Counters, Form, body_of, form_of, part_with};
+use rio_format::{Base, BodyKind, ClassDef, Classes, Counters, Form, Header, Kind, Member, ObjFault, ObjReader, Part, Parts, PointerWord, Prim, Value, Values, body_of, form_of, part_with};
 use rio_num::Boxed;
-use rio_types::{Base, ClassDef, Classes, Kind, Member, Prim};
-use rio_value::{Part, Parts, Value, Values};
 use std::alloc::Global;
 
 /// An object of the class.

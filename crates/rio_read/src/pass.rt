@@ -1,7 +1,6 @@
 //! Objects are passed over: the first fault is told, and no value is made.
 ghost use Rattle.rio_num.specs.At.{GoesOn};
-ghost use Rattle.rio_buffer.specs.Frames.{ReadsAs};
-ghost use Rattle.rio_format.specs.Objects.{depth_limit, object_of};
+ghost use Rattle.rio_format.specs.{Frames.{ReadsAs}, Objects.{depth_limit, object_of}};
 ghost use Rattle.rio_num.specs.Meanings.{read};
 ghost use Rattle.rio_read.specs.Passing.{pass_of};
 
@@ -9,10 +8,8 @@ mod numbers;
 mod object;
 mod plain;
 
-use crate::read::DEPTH_LIMIT;
 pub use numbers::{pass_number, pass_numbers};
-use rio_buffer::{ObjFault, ObjReader};
-use rio_types::Classes;
+use rio_format::{Classes, DEPTH_LIMIT, ObjFault, ObjReader};
 use std::alloc::Global;
 
 /// Passes over the next object of the class, or tells the first fault, as `read_next` would. No value is made.

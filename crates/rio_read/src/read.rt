@@ -2,20 +2,13 @@
 ghost use Rattle.std.specs.Prelude.{◌+◌, ◌<◌, ◌^◌, length, IfOk, IsTrue};
 ghost use Rattle.rio_num.specs.Answers.{TellsUnless};
 ghost use Rattle.rio_num.specs.At.{AreBytes, GoesOn};
-ghost use Rattle.rio_buffer.specs.declared.fault.ObjFault.TheVariants.{NoMemory as OutOfMemory};
-ghost use Rattle.rio_format.specs.Objects.{BreaksObject, value_at};
-ghost use Rattle.rio_format.specs.BuiltIn.{is_small_builtin};
+ghost use Rattle.rio_format.specs.{declared.fault.ObjFault.TheVariants.{NoMemory as OutOfMemory}, Objects.{BreaksObject, value_at}, BuiltIn.{is_small_builtin}};
 ghost use Rattle.rio_read.specs.FirstFault.{BreaksNext, RefusesBreak};
 ghost use Rattle.rio_read.specs.Reading.{Answers, AnswersFront, HasFront, IsRead, IsSpelled, ReadsNext};
 
 use crate::object;
-use rio_buffer::{ObjFault, ObjReader};
-use rio_types::Classes;
-use rio_value::Value;
+use rio_format::{Classes, DEPTH_LIMIT, ObjFault, ObjReader, Value};
 use std::alloc::Global;
-
-/// How deep an object may be.
-pub(crate) const DEPTH_LIMIT: u32 = 256;
 
 /// The object of the class that begins the data, whose first byte has the place `start`, or the first
 /// fault. Bytes behind the object are ignored. An object whose class is not described in its version, or

@@ -1,14 +1,10 @@
 //! The ends of objects with a header.
 ghost use Rattle.rio_num.specs.At.{GoesOn};
-ghost use Rattle.rio_buffer.specs.Frames.{ReadsAs};
-ghost use Rattle.rio_format.specs.Objects.{closed, unread};
+ghost use Rattle.rio_format.specs.{Frames.{ReadsAs}, Objects.{closed, unread}, Reader.{IsCounted}};
 ghost use Rattle.rio_num.specs.Meanings.{read};
-ghost use Rattle.rio_buffer.specs.Reader.{IsCounted};
 
-use rio_buffer::{Header, ObjFault, ObjReader};
+use rio_format::{ClassDef, Header, ObjFault, ObjReader, Parts, Value};
 use rio_num::Name;
-use rio_types::ClassDef;
-use rio_value::{Parts, Value};
 use std::alloc::Global;
 
 /// The object of these parts, which end where the header says.

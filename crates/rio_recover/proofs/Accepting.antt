@@ -1,8 +1,7 @@
 -- A class list that stands for the classes of a state, or doesn't.
 use Rattle.std.proofs.Common.{◌≡◌, ◌∙◌, ◌<◌, List, [], length, Bool, true, false, sym, subst, IsTrue}
 use Rattle.std.specs.Prelude.{◌↔◌}
-use Rattle.rio_types.specs.declared.class.ClassDef.{ClassDef}
-use Rattle.rio_format.specs.TreeClasses.{written_classes}
+use Rattle.rio_format.specs.{declared.class.ClassDef.{ClassDef}, TreeClasses.{written_classes}}
 use Rattle.rio_model.specs.StateClasses.{AreDeclared, HasShortList, StateClasses}
 use Rattle.rio_recover.specs.Classes.{AreListedForState}
 use Rattle.rio_recover.proofs.Declared.{is_state, none_state, not_short}

@@ -6,7 +6,7 @@ use Rattle.rio_num.specs.Reading.{some_if}
 use Rattle.rio_key.specs.declared.head.KeyHead.{KeyHead}
 use Rattle.rio_host.specs.Image.{Has}
 use Rattle.rio_chain.proofs.Words.{has_own, has_same}
-use Rattle.rio_types.specs.declared.class.ClassDef.{ClassDef}
+use Rattle.rio_format.specs.declared.class.ClassDef.{ClassDef}
 use Rattle.rio_tree.specs.{declared.basket_at.BasketAt.{BasketAt}, declared.head.Branch.{Branch}, declared.head.TreeHead.{TreeHead}}
 use Rattle.rio_state.specs.{KeyedRecords.{KeyedRecord, has_class, record_at}, Trees.{RecordsAt, basket_bytes, bytes_as_said, saved_rows}}
 use Rattle.rio_state.proofs.{Members.{all_from}, SavedRows.{HasBasket, rows_there}}

@@ -2,7 +2,7 @@
 use Rattle.std.proofs.Common.{◌≡◌, ◌≢◌, ◌∙◌, ◌↔◌, inl, ℕ, true, false, not, ◌&&◌, ◌||◌, ◌==◌, List, [], ◌∷◌, length, map, Option, refl, sym, ap, subst, arith}
 use Rattle.std.proofs.{lemmas.Bool.{eq-eqb, not-true, or_parts}, lemmas.List.Elements.{filter_agree}}
 use Rattle.std.specs.{Prelude.{is_some, option_and_then}, List.{Contains, filter, find, list_all, sum_by}, Str.{bytes_eq}}
-use Rattle.rio_types.specs.declared.class.ClassDef.{ClassDef}
+use Rattle.rio_format.specs.declared.class.ClassDef.{ClassDef}
 use Rattle.rio_key.specs.{Written.{written_key}, declared.head.KeyHead.{KeyHead}}
 use Rattle.rio_chain.specs.Segments.{IsChain, Link}
 use Rattle.rio_machine.specs.State.{State, Tree}

@@ -2,9 +2,7 @@
 use Rattle.std.proofs.Common.{◌≡◌, ◌∙◌, ℕ, ◌+◌, ◌<◌, ◌≤◌, add-one, drop-cons, get_or, List, [], ◌∷◌, ◌++◌, append_assoc, codes, length, take, drop, Bool, true, false, not, Some, None, Ok, Err, refl, sym, ap, subst, IsTrue, arith}
 use Rattle.std.proofs.{Math.Seq.{drop-append_seam}, lemmas.List.{drop_all, take_all, take_more}}
 use Rattle.std.specs.{Prelude.{◌↔◌}, Result.{result_unwrap_or}}
-use Rattle.rio_types.specs.declared.class.ClassDef.{ClassDef}
-use Rattle.rio_buffer.specs.declared.fault.ObjFault.{ObjFault}
-use Rattle.rio_format.specs.TreeClasses.{tree_classes, written_classes}
+use Rattle.rio_format.specs.{declared.class.ClassDef.{ClassDef}, declared.fault.ObjFault.{ObjFault}, TreeClasses.{tree_classes, written_classes}}
 use Rattle.rio_info.proofs.ListGrowth.{last_length_decides}
 use Rattle.rio_model.specs.{Declaring.{declare_fault, declared, is_reserved_name}, Stated.{is_stated_class}}
 use Rattle.rio_model.specs.StateClasses.{AreAccepted, AreDeclared, HasShortList, IsDeclared, StateClasses}

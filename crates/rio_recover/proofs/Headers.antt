@@ -3,10 +3,7 @@ use Rattle.std.proofs.Common.{◌≡◌, ◌∙◌, ℕ, List, drop, length, Boo
 use Rattle.std.proofs.lemmas.{Bool.{and_parts, ltb-false, not-true, or_parts}, List.{length-map}}
 use Rattle.std.specs.{Prelude.{IfSome, nat_lt, option_and_then}, List.{list_any}, Result.{result_ok}}
 use Rattle.rio_num.specs.{Reading.{some_if}, Room.{is_padding}}
-use Rattle.rio_types.specs.declared.class.ClassDef.{ClassDef}
-use Rattle.rio_value.specs.declared.value.Value.{Value}
-use Rattle.rio_buffer.specs.{Frames.{Step}, ReaderState.{ReaderState}, declared.fault.ObjFault.{ObjFault}}
-use Rattle.rio_format.specs.Objects.{first_at}
+use Rattle.rio_format.specs.{declared.class.ClassDef.{ClassDef}, declared.value.Value.{Value}, Frames.{Step}, ReaderState.{ReaderState}, declared.fault.ObjFault.{ObjFault}, Objects.{first_at}}
 use Rattle.rio_key.specs.declared.head.KeyHead.{KeyHead}
 use Rattle.rio_leaf.specs.Stated.{are_stated_branches}
 use Rattle.rio_machine.specs.Limits.{branch_limit, has_many_branches, has_many_leaves}

@@ -1,10 +1,7 @@
 -- The object of a record, by its key and its bytes.
 use Rattle.std.proofs.Common.{◌≡◌, ◌∙◌, ℕ, List, drop, ◌&&◌, Some, None, Ok, Err, refl, sym, ap, cond}
 use Rattle.rio_num.specs.Room.{is_padding}
-use Rattle.rio_types.specs.declared.class.ClassDef.{ClassDef}
-use Rattle.rio_value.specs.declared.value.Value.{Value}
-use Rattle.rio_buffer.specs.Frames.{Step}
-use Rattle.rio_format.specs.Objects.{first_at}
+use Rattle.rio_format.specs.{declared.class.ClassDef.{ClassDef}, declared.value.Value.{Value}, Frames.{Step}, Objects.{first_at}}
 use Rattle.rio_key.specs.declared.head.KeyHead.{KeyHead}
 use Rattle.rio_state.specs.{Contents.{can_be_stored, object_in, stored_in}, KeyedRecords.{KeyedRecord}}
 use Rattle.rio_recover.specs.Keys.{keyed}

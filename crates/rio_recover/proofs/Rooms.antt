@@ -2,7 +2,7 @@
 use Rattle.std.proofs.Common.{◌≡◌, ◌∙◌, ℕ, ◌+◌, List, ◌++◌, map, length, ltb, Option, Some, None, refl, sym, ap, arith}
 use Rattle.std.proofs.lemmas.List.{length-append, length-map, Concat.{length-flat_map}, Sorted.{length_permutation, sum_by-IsPermutation}}
 use Rattle.std.specs.{List.{sum_by, Sorted.{IsPermutation}}, Option.{option_map_or}}
-use Rattle.rio_types.specs.declared.class.ClassDef.{ClassDef}
+use Rattle.rio_format.specs.declared.class.ClassDef.{ClassDef}
 use Rattle.rio_key.specs.{Written.{written_key}, declared.head.KeyHead.{KeyHead}}
 use Rattle.rio_head.specs.declared.reason.Reason.TheVariants.{NoRoom, TooMany}
 use Rattle.rio_chain.specs.{Adjoining.{segments_end}, Placing.{file_end}, Segments.{Link, chain_end, segment_of}}

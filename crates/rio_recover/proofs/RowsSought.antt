@@ -1,6 +1,6 @@
 -- The rows of a header, by the records of a file and by the keys of these.
 use Rattle.std.proofs.Common.{◌≡◌, ℕ, List, sym}
-use Rattle.rio_types.specs.declared.class.ClassDef.{ClassDef}
+use Rattle.rio_format.specs.declared.class.ClassDef.{ClassDef}
 use Rattle.rio_key.specs.declared.head.KeyHead.{KeyHead}
 use Rattle.rio_machine.specs.RowEntries.{fitting_row}
 use Rattle.rio_tree.specs.{SavedEntries.{rows_by}, WrittenLaws.{stated_defs}, declared.head.TreeHead.{TreeHead}}

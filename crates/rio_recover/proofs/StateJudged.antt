@@ -1,7 +1,7 @@
 -- What is told of a file's records, by the tests of their keys and of the class list.
 use Rattle.std.proofs.Common.{◌≡◌, ◌∙◌, ℕ, List, [], ◌++◌, Bool, true, false, MatchBool, Option, Some, None, Err, refl, sym, ap, subst, slice_get}
 use Rattle.std.specs.{Option.{option_map_or}, List.Sorted.{IsPermutation}}
-use Rattle.rio_types.specs.declared.class.ClassDef.{ClassDef}
+use Rattle.rio_format.specs.declared.class.ClassDef.{ClassDef}
 use Rattle.rio_key.specs.declared.head.KeyHead.{KeyHead}
 use Rattle.rio_head.specs.declared.reason.Reason.TheVariants.{BadInfo}
 use Rattle.rio_chain.specs.Segments.{Link}

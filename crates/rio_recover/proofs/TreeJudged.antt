@@ -4,7 +4,7 @@ use Rattle.std.proofs.lemmas.List.{Concat.{flat_map-append}, Elements.{filter-ap
 use Rattle.std.specs.{Prelude.{is_some, option_and_then}, List.{filter, flat_map, list_any}, Option.{option_map_or}}
 use Rattle.rio_num.specs.Reading.{some_if}
 use Rattle.rio_machine.specs.State.{Row, Tree}
-use Rattle.rio_types.specs.declared.class.ClassDef.{ClassDef}
+use Rattle.rio_format.specs.declared.class.ClassDef.{ClassDef}
 use Rattle.rio_tree.specs.declared.head.TreeHead.{TreeHead}
 use Rattle.rio_state.specs.{Contents.{FileClasses}, KeyedRecords.{KeyedRecord, is_tree_record, record_at, tree_records}, Reasons.{Beside, is_bad_tree, beside_trees}}
 use Rattle.rio_state.specs.Trees.{all_places_named, are_named_once, basket_places, header_in, places_named, records_before, saved_rows, saved_tree, tree_by, tree_of}

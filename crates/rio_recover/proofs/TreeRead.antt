@@ -3,7 +3,7 @@ use Rattle.std.proofs.Common.{◌≡◌, ◌∙◌, ℕ, List, Bool, true, false
 use Rattle.std.proofs.lemmas.List.Elements.{All-contains}
 use Rattle.std.specs.{Prelude.{is_some, option_and_then}, List.{Contains}}
 use Rattle.rio_num.specs.Reading.{some_if}
-use Rattle.rio_types.specs.declared.class.ClassDef.{ClassDef}
+use Rattle.rio_format.specs.declared.class.ClassDef.{ClassDef}
 use Rattle.rio_key.specs.declared.head.KeyHead.{KeyHead}
 use Rattle.rio_tree.specs.declared.head.TreeHead.{TreeHead}
 use Rattle.rio_state.specs.{Contents.{FileClasses}, KeyedRecords.{KeyedRecord, record_at}, Reasons.{Beside}, Trees.{header_in, saved_rows}}

@@ -2,7 +2,7 @@
 use Rattle.std.proofs.Common.{◌≡◌, ◌∙◌, ℕ, List, map, true, Bool, Option, sym, ap, subst}
 use Rattle.std.proofs.lemmas.List.{Elements.{All-filter}, Sorted.{All-permutation}}
 use Rattle.std.specs.List.{All, filter, list_all, Sorted.{IsPermutation}}
-use Rattle.rio_types.specs.declared.class.ClassDef.{ClassDef}
+use Rattle.rio_format.specs.declared.class.ClassDef.{ClassDef}
 use Rattle.rio_key.specs.declared.head.KeyHead.{KeyHead}
 use Rattle.rio_chain.specs.{Adjoining.{AreSegments}, declared.segment.Segment.{Segment}}
 use Rattle.rio_model.specs.StateClasses.{StateClasses}

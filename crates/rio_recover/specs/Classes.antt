@@ -1,8 +1,7 @@
 -- The classes that a file's class list stands for.
 use Rattle.std.specs.Prelude.{◌≡◌, ◌≤◌, ◌+◌, List, length, Option, Some, None, IfSome}
-use Rattle.rio_types.specs.declared.class.ClassDef.{ClassDef}
+use Rattle.rio_format.specs.{declared.class.ClassDef.{ClassDef}, TreeClasses.{written_classes}}
 use Rattle.rio_key.specs.declared.head.KeyHead.{KeyHead}
-use Rattle.rio_format.specs.TreeClasses.{written_classes}
 use Rattle.rio_model.specs.StateClasses.{StateClasses}
 use Rattle.rio_state.specs.{Contents.{FileClasses, HasStateClasses, file_classes}, KeyedRecords.{KeyedRecord}}
 use Rattle.rio_recover.specs.declared.classes.ListedClasses.{ListedClasses}

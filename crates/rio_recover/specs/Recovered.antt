@@ -1,7 +1,7 @@
 -- What is recovered of a file that reads as a state, and what a recovery answers.
 use Rattle.std.specs.Prelude.{◌≡◌, ◌+◌, ◌≤◌, ℕ, List, [], ◌++◌, map, length, Bool, true, false, ◌==◌, ◌&&◌, ◌||◌, not, MatchBool, Option, Some, None, Result, Ok, Err, slice_get}
 use Rattle.std.specs.{List.{filter, list_any, Sorted.{IsPermutation}}, Option.{option_map, option_map_or}}
-use Rattle.rio_types.specs.declared.class.ClassDef.{ClassDef}
+use Rattle.rio_format.specs.declared.class.ClassDef.{ClassDef}
 use Rattle.rio_key.specs.declared.head.KeyHead.{KeyHead}
 use Rattle.rio_head.specs.{Head.{fault_at, head_at}, declared.fault.FileFault.{FileFault}, declared.head.FileHead.{FileHead}, declared.reason.Reason.{Reason}}
 use Rattle.rio_chain.specs.{Chains.{HasChain}, Placing.{file_end}, Segments.{Link}}

@@ -2,9 +2,7 @@
 use Rattle.std.specs.Prelude.{ℕ, List, length, map, Bool, true, ◌≡◌, ◌≤◌, Option, Some, None, option_and_then, Ok, Err}
 use Rattle.std.specs.{List.{filter_map, flat_map, list_all, Sorted.{IsPermutation}}, Option.{option_map}, Result.{result_ok}}
 use Rattle.rio_num.specs.{Reading.{some_if}, Room.{is_padding}}
-use Rattle.rio_buffer.specs.Frames.{Step}
-use Rattle.rio_types.specs.declared.class.ClassDef.{ClassDef}
-use Rattle.rio_value.specs.declared.value.Value.{Value}
+use Rattle.rio_format.specs.{Frames.{Step}, declared.class.ClassDef.{ClassDef}, declared.value.Value.{Value}}
 use Rattle.rio_leaf.specs.Stated.{are_stated_branches}
 use Rattle.rio_machine.specs.Limits.{branch_limit}
 use Rattle.rio_tree.specs.{Header.{tree_head_in}, WrittenLaws.{stated_defs}, declared.head.TreeHead.{TreeHead}}

@@ -1,8 +1,7 @@
 //! The classes that commands declared, read from a class list.
 ghost use Rattle.std.specs.Prelude.{◌≡◌, ◌↔◌, ◌+◌, ◌++◌, ◌∷◌, ◌<◌, ◌≤◌, ◌^◌, [], length, ℕ, List, Option, Some, IsTrue, MatchBool, MatchOption, IfOk, IfSome};
 ghost use Rattle.std.specs.Option.{option_copied, option_map};
-ghost use Rattle.rio_types.specs.declared.class.ClassDef.{ClassDef as Class};
-ghost use Rattle.rio_format.specs.TreeClasses.{written_classes};
+ghost use Rattle.rio_format.specs.{declared.class.ClassDef.{ClassDef as Class}, TreeClasses.{written_classes}};
 ghost use Rattle.rio_host.specs.Host.{IsWithin};
 ghost use Rattle.rio_host.specs.OnlyReads.{OnlyReads};
 ghost use Rattle.rio_model.specs.StateClasses.{AreDeclared, HasShortList, IsDeclared, StateClasses};
@@ -13,7 +12,7 @@ ghost use Rattle.rio_recover.specs.Keys.{StandsIn, record_end};
 
 use crate::RecoverFault;
 use crate::object::record_bytes;
-use rio_buffer::ObjFault;
+use rio_format::{Base, ClassDef, Classes, LENGTH_LIMIT, ObjFault};
 use rio_decl::is_stated;
 use rio_describe::tree_classes;
 use rio_host::Host;
@@ -22,7 +21,6 @@ use rio_key::KeyHead;
 use rio_model::DeclareFault;
 use rio_num::NoMemory;
 use rio_registry::{Registry, is_reserved_name};
-use rio_types::{Base, ClassDef, Classes};
 use std::alloc::Global;
 
 /// The classes of a file: all that its class list describes, those of trees too, and those that commands declared.
@@ -31,9 +29,6 @@ pub(crate) struct ListedClasses {
     pub(crate) described: Classes,
     pub(crate) registry: Registry,
 }
-
-// How long the data of a class list may be.
-const LENGTH_LIMIT: u64 = 16_777_216;
 
 fn are_same_bases(a: &[Base], b: &[Base]) -> bool
     ensures { IsTrue result ↔ (a.now ≡ b.now) }

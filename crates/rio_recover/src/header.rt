@@ -19,22 +19,15 @@ ghost use Rattle.rio_recover.specs.Trees.{IsReadHead, padded_in, written_head};
 use crate::RecoverFault;
 use crate::classes::ListedClasses;
 use crate::object::{is_padding, record_bytes};
-use rio_buffer::{ObjFault, ObjReader};
+use rio_machine::{BRANCH_LIMIT, LEAF_LIMIT};
+use rio_format::{Classes, ObjFault, ObjReader, Value};
 use rio_host::Host;
 use rio_key::KeyHead;
 use rio_leaf::{BranchDef, BranchDefs, Shape, are_stated};
 use rio_num::NoMemory;
 use rio_read::read_next;
 use rio_tree::{Branch, TreeFault, TreeHead, read_tree, tree_value};
-use rio_types::Classes;
-use rio_value::Value;
 use std::alloc::Global;
-
-// How many branches a tree may have.
-const BRANCH_LIMIT: usize = 64;
-
-// How many leaves a branch may have.
-const LEAF_LIMIT: usize = 64;
 
 /// The branches of a header as a line of a script declares them.
 pub fn stated_defs(alloc: Global, branches: &[Branch]) -> Result<BranchDefs, NoMemory>

@@ -26,7 +26,7 @@ use rio_host::Host;
 use rio_key::KeyHead;
 use rio_num::{NoMemory, is_item};
 use rio_tree::TreeHead;
-use rio_types::Classes;
+use rio_format::Classes;
 use std::alloc::Global;
 
 /// What a key of a file's items is.

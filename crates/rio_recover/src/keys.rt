@@ -8,10 +8,7 @@ ghost use Rattle.rio_recover.specs.Keys.{keyed_by};
 
 use crate::RecoverFault;
 use rio_head::Reason;
-use rio_key::KeyHead;
-
-// The place of the first record, and of the directory that it holds.
-const FIRST_PLACE: u64 = 100;
+use rio_key::{FIRST_PLACE, KeyHead};
 
 /// Whether the record is of this class.
 pub(crate) fn has_class(head: &KeyHead, class: &[u8]) -> bool

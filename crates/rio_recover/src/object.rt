@@ -2,34 +2,23 @@
 ghost use Rattle.std.specs.Prelude.{◌≡◌, ◌&&◌, ◌<◌, ◌^◌, is_some, length, ℕ, List, Some, IfOk, Ok};
 ghost use Rattle.std.specs.Int.{cast_unsigned};
 ghost use Rattle.rio_num.specs.Room.{is_padding};
-ghost use Rattle.rio_format.specs.Objects.{first_at};
+ghost use Rattle.rio_format.specs.{Objects.{first_at}, declared.value.Value.{Value as Read}};
 ghost use Rattle.rio_host.specs.Host.{IsWithin};
 ghost use Rattle.rio_host.specs.OnlyReads.{OnlyReads};
-ghost use Rattle.rio_value.specs.declared.value.Value.{Value as Read};
 ghost use Rattle.rio_state.specs.Contents.{can_be_stored, object_in, stored_in};
 ghost use Rattle.rio_state.specs.KeyedRecords.{KeyedRecord};
 ghost use Rattle.rio_recover.specs.Causes.{IsRecoverCause, Obtains};
 ghost use Rattle.rio_recover.specs.Keys.{StandsIn, keyed, record_end};
 
 use crate::RecoverFault;
-use rio_buffer::{ObjFault, ObjReader};
+use rio_machine::LIST_LIMIT;
+use rio_format::{Classes, DEPTH_LIMIT, LENGTH_LIMIT, ObjFault, ObjReader, Value, depth, longest_list};
 use rio_fit::{can_be_put, fits};
 use rio_host::{Host, bytes_at};
 use rio_key::KeyHead;
 use rio_num::NoMemory;
 use rio_read::read_next;
-use rio_types::Classes;
-use rio_value::{Value, depth, longest_list};
 use std::alloc::Global;
-
-// How long an object's data may be.
-const LENGTH_LIMIT: u32 = 16_777_216;
-
-// How deep an object may be.
-const DEPTH_LIMIT: u32 = 256;
-
-// How many values a list may have.
-const LIST_LIMIT: u64 = 100_000;
 
 /// The bytes of the record with this key.
 pub(crate) fn record_bytes<H: Host>(
@@ -76,7 +65,7 @@ fn can_be_stored(
     Ok(
         fits(alloc, classes, head.class.as_slice(), value)?
             && can_be_put(classes, head.class.as_slice())
-            && head.objlen <= LENGTH_LIMIT
+            && u64::from(head.objlen) <= LENGTH_LIMIT
             && depth(value) <= DEPTH_LIMIT
             && longest_list(value) <= LIST_LIMIT,
     )

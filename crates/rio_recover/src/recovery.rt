@@ -37,7 +37,7 @@ use rio_chain::{Chain, end_of};
 use rio_dir::KeyTable;
 use rio_head::Reason;
 use rio_host::Host;
-use rio_key::KeyHead;
+use rio_key::{FIRST_PLACE, KeyHead};
 use rio_num::{Name, NoMemory, Places};
 use rio_registry::Registry;
 use std::alloc::Global;
@@ -62,9 +62,6 @@ pub struct Recovered {
     /// The header's fNbytesName.
     pub nbytes_name: u32,
 }
-
-// Where the first record stands.
-const FIRST_PLACE: u64 = 100;
 
 // The classes of a state, and what is known of the keys of its items.
 #[derive(Drop)]

@@ -14,14 +14,12 @@ ghost use Rattle.rio_recover.specs.Trees.{places_of};
 
 use crate::RecoverFault;
 use crate::trees::TreeAt;
+use rio_machine::ITEM_LIMIT;
 use rio_dir::KeyTable;
 use rio_head::Reason;
 use rio_key::KeyHead;
 use rio_state::{END_LIMIT, close_length};
 use rio_tree::TreeHead;
-
-// How many objects and trees a file may have.
-const ITEM_LIMIT: usize = 100_000;
 
 // So many records need more room in a free record than any file has.
 const RECORD_LIMIT: u64 = 200_000_000;

@@ -3,7 +3,7 @@ ghost use Rattle.std.specs.Prelude.{◌≡◌, is_some, true, ℕ, List, Some, O
 ghost use Rattle.std.specs.List.{list_all};
 ghost use Rattle.rio_entry.specs.SavedRows.{is_whole};
 ghost use Rattle.rio_host.specs.OnlyReads.{OnlyReads};
-ghost use Rattle.rio_value.specs.declared.value.Value.{Value as Read};
+ghost use Rattle.rio_format.specs.declared.value.Value.{Value as Read};
 ghost use Rattle.rio_state.specs.Trees.{RecordsAt, saved_rows};
 ghost use Rattle.rio_tree.specs.Header.{tree_head_in};
 ghost use Rattle.rio_recover.specs.Baskets.{AreKeyedIn};
@@ -15,7 +15,7 @@ use rio_entry::are_rows_saved;
 use rio_host::Host;
 use rio_key::KeyHead;
 use rio_tree::TreeHead;
-use rio_types::Classes;
+use rio_format::Classes;
 use std::alloc::Global;
 
 /// Whether the rows that the header names are there, and fit its branches; the header was read from a value. The keys are

@@ -16,14 +16,11 @@ use crate::RecoverFault;
 use rio_chain::{FoundChain, Segment, Segments, walk_with_keys};
 use rio_head::{FileHead, Reason, read_head};
 use rio_host::{Host, bytes_at};
-use rio_key::Heads;
+use rio_key::{FIRST_PLACE, Heads};
 use std::alloc::Global;
 
 // No header is longer.
 const HEAD_LENGTH: u64 = 100;
-
-// Where the first record stands.
-const FIRST_PLACE: u64 = 100;
 
 // How long a directory record is.
 const DIRECTORY_LENGTH: u64 = 60;

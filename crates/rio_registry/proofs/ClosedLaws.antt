@@ -4,8 +4,7 @@ use Rattle.std.proofs.{lemmas.Bool.{and_parts, or_left, or_right}, lemmas.Cmp.{n
 use Rattle.std.proofs.lemmas.Slice.Eq.{bytes_eq-Decides}
 use Rattle.std.specs.{Prelude.{is_some}, List.{list_all, list_any}, Option.{option_or}, Str.{bytes_eq}}
 use Rattle.rio_num.proofs.Cases.{both_or_none, either}
-use Rattle.rio_types.specs.{Classes.{find_in}, declared.class.Base.{Base}, declared.class.ClassDef.{ClassDef}, declared.class.Member.{Member}}
-use Rattle.rio_types.specs.declared.kind.Kind.{Kind, TheVariants.{Inline}}
+use Rattle.rio_format.specs.{Classes.{find_in}, declared.class.Base.{Base}, declared.class.ClassDef.{ClassDef}, declared.class.Member.{Member}, declared.kind.Kind.{Kind, TheVariants.{Inline}}}
 use Rattle.rio_model.specs.Declaring.{IsClosed, IsWay, Reaches, base_declared, declare_fault, declared, has_within, holds, holds_itself, is_built_in_base, is_declared, is_inline, is_known, knows_all, knows_base, knows_kind, limit_fault}
 use Rattle.rio_model.specs.declared.declare.DeclareFault.{DeclareFault, TheVariants.{HoldsItself, NoSuchClass, SameVersion}}
 use Rattle.rio_model.proofs.ReachLaws.{reaching_is_a_way}

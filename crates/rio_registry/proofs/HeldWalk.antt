@@ -3,8 +3,8 @@ use Rattle.std.proofs.Common.{◌≡◌, ◌≤◌, ◌<◌, ℕ, suc, List, [],
 use Rattle.std.proofs.{Math.Bool.{or-false}, lemmas.List.{append-nil, append_assoc}}
 use Rattle.std.specs.{List.{slice_get}, Cmp.Lexicographic.{same_text}}
 use Rattle.rio_num.specs.Word.{is_among}
-use Rattle.rio_types.specs.{Chain.{last_before}, Places.{is_named}, declared.class.ClassDef.{ClassDef}}
-use Rattle.rio_types.proofs.ChainLaws.{drop_at, drop_none, end_of, last_found, walk_back, walk_falls, walk_goes}
+use Rattle.rio_format.specs.{Chain.{last_before}, Places.{is_named}, declared.class.ClassDef.{ClassDef}}
+use Rattle.rio_format.proofs.ChainLaws.{drop_at, drop_none, end_of, last_found, walk_back, walk_falls, walk_goes}
 use Rattle.rio_model.specs.Declaring.{has_within, holds}
 use Rattle.rio_registry.specs.Reaching.{IsGrown}
 

@@ -1,7 +1,7 @@
 -- Looking for declared classes.
 use Rattle.std.proofs.Common.{◌≡◌, ℕ, List, [], ◌∷◌, Bool, true, false, ◌||◌, Option, Some, None, if◌then◌else◌, refl}
 use Rattle.std.specs.{Borrow.{Bor}, Prelude.{is_some}, Option.{option_copied}, Str.{bytes_eq}}
-use Rattle.rio_types.specs.{Classes.{newer_of, newest_in}, declared.class.ClassDef.{ClassDef}}
+use Rattle.rio_format.specs.{Classes.{newer_of, newest_in}, declared.class.ClassDef.{ClassDef}}
 use Rattle.rio_model.specs.Declaring.{is_declared}
 
 chosen : (b : Bool) (c : ClassDef) (rest : Option ClassDef) → is_some (if b then Some (newer_of c rest) else rest) ≡ (b || is_some rest)

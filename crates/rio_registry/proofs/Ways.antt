@@ -6,8 +6,8 @@ use Rattle.std.proofs.{lemmas.Option.{get_or_from_slice_get, slice_get_cases, sl
 use Rattle.std.specs.{Prelude.{Some, None, slice_get}, List.{IsDistinct, list_any}, Str.{bytes_eq}}
 use Rattle.rio_num.proofs.Cases.{either}
 use Rattle.rio_num.specs.Word.{is_among}
-use Rattle.rio_types.specs.{declared.class.Base.{Base}, declared.class.ClassDef.{ClassDef}, declared.class.Member.{Member}}
-use Rattle.rio_types.specs.declared.kind.Kind.{Kind, TheVariants.{Plain, Counter, Fixed, Counted, Text, Inline, Pointer, Other}}
+use Rattle.rio_format.specs.{declared.class.Base.{Base}, declared.class.ClassDef.{ClassDef}, declared.class.Member.{Member}}
+use Rattle.rio_format.specs.declared.kind.Kind.{Kind, TheVariants.{Plain, Counter, Fixed, Counted, Text, Inline, Pointer, Other}}
 use Rattle.rio_model.specs.Declaring.{IsWay, Reaches, has_within, holds, is_inline}
 use Rattle.rio_registry.specs.Reaching.{ComesTo, IsGrown}
 

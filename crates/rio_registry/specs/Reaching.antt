@@ -1,7 +1,7 @@
 -- Names that are reached through bases and members by value.
 use Rattle.std.specs.{Prelude.{◌≡◌, ℕ, List, ◌++◌, Bool, ◌||◌, ◌⊎◌, IsTrue}, List.{IsDistinct}, Str.{bytes_eq}}
 use Rattle.rio_num.specs.Word.{is_among}
-use Rattle.rio_types.specs.declared.class.ClassDef.{ClassDef}
+use Rattle.rio_format.specs.declared.class.ClassDef.{ClassDef}
 use Rattle.rio_model.specs.Declaring.{Reaches}
 
 -- the names are still there, and behind them the added ones; no name is there twice if none was

@@ -3,8 +3,7 @@ ghost use Rattle.std.specs.Prelude.{◌≡◌};
 ghost use Rattle.rio_model.specs.Declaring.{is_built_in_base, is_built_in_target, is_declared, is_known, is_reserved_name, knows_all, knows_base, knows_kind};
 ghost use Rattle.std.specs.List.{list_all};
 
-use rio_format::BuiltIn;
-use rio_types::{Base, ClassDef, Classes, Kind, Member};
+use rio_format::{Base, BuiltIn, ClassDef, Classes, Kind, Member};
 
 /// Whether the name begins with T and an upper-case letter. Such names are left to the classes that come with the
 /// format.

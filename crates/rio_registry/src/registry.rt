@@ -2,7 +2,7 @@
 use crate::judge::{declare_fault, rule_fault};
 use crate::newest::with_newest_bases;
 use rio_model::DeclareFault;
-use rio_types::{ClassDef, Classes};
+use rio_format::{ClassDef, Classes};
 use std::alloc::Global;
 use std::marker::Model;
 
@@ -14,7 +14,7 @@ pub struct Registry {
 
 impl Model for Registry {
     ghost use Rattle.std.specs.Prelude.{List};
-    ghost use Rattle.rio_types.specs.declared.class.ClassDef.{ClassDef as Class};
+    ghost use Rattle.rio_format.specs.declared.class.ClassDef.{ClassDef as Class};
     ghost use Rattle.rio_registry.specs.Fronts.{AreClosed};
 
     ghost Value = { List Class };

@@ -6,8 +6,7 @@ use Rattle.std.specs.FinMap.{FinMap, empty, entries, entries-from_sorted, entrie
 use Rattle.std.specs.Ordering.{is_lt}
 use Rattle.rio_machine.specs.State.{NameAndCycle, State, Tree, item_order}
 use Rattle.rio_num.specs.{Printed.{numbered}, Room.{Room}, Word.{name_order}}
-use Rattle.rio_value.specs.declared.value.Value.{Value}
-use Rattle.rio_buffer.specs.declared.fault.ObjFault.{ObjFault}
+use Rattle.rio_format.specs.{declared.value.Value.{Value}, declared.fault.ObjFault.{ObjFault}}
 use Rattle.rio_key.specs.declared.head.KeyHead.{KeyHead}
 use Rattle.rio_machine.proofs.OrderLaws.{items_tie, items_total}
 use Rattle.rio_step.specs.{ItemKeys.{AreKeysOfState, told_by_key}, ReplyText.{item_lines, text_of}}

@@ -2,7 +2,7 @@
 use Rattle.std.proofs.Common.{◌≡◌, ℕ, ◌+◌, ◌∙◌, List, [], ◌∷◌, ◌++◌, codes, length, Bool, true, false, Ok, Err, refl, sym, ap, append_assoc, add-zero, arith}
 use Rattle.std.specs.List.{flat_map}
 use Rattle.std.proofs.lemmas.List.{append-nil}
-use Rattle.rio_value.specs.declared.value.Value.{Value}
+use Rattle.rio_format.specs.declared.value.Value.{Value}
 use Rattle.rio_model.specs.{Lists.{separated}, Mapping.{Mapped}, ValueText.{text_of_value}}
 use Rattle.rio_model.proofs.ValueTextLaws.{text_of-List}
 use Rattle.rio_machine.specs.State.{Row}

@@ -2,12 +2,9 @@
 use Rattle.std.proofs.Common.{◌≡◌, ◌||◌, ℕ, ℤ, List, [], ◌∷◌, ◌++◌, map, length, Bool, true, false, cond, Option, Some, None, Ok, Err, refl, sym, ap, subst, ◌∙◌}
 use Rattle.std.specs.{Prelude.{◌==◌, ◌&&◌, find, if◌then◌else◌, is_some, option_and_then}, List.{list_any}, Option.{option_map, option_map_or}, Ordering.{int_eq}, Str.{bytes_eq}}
 use Rattle.rio_num.specs.Reading.{◌>>=◌}
-use Rattle.rio_types.specs.{Classes.{find_in}, declared.class.Base.{Base}, declared.class.ClassDef.{ClassDef}, declared.class.Member.{Member}}
-use Rattle.rio_types.specs.declared.kind.Kind.{Kind, TheVariants.{Plain, Counter, Fixed, Counted, Text, Inline, Pointer, Other}}
-use Rattle.rio_types.specs.declared.kind.Primitive.TheVariants.{I32}
-use Rattle.rio_value.specs.declared.value.Part.{Part, Part-F}
-use Rattle.rio_value.specs.declared.value.Value.{Value, Int, Bits32, Bits64, Bool as Truth, Text as Chars, List as Items, Object, Pointed, Null, Back, Opaque, out-Value, TheFolds.{fold-Part, fold_out-Part}}
-use Rattle.rio_format.specs.Bodies.{part}
+use Rattle.rio_format.specs.{Classes.{find_in}, declared.class.Base.{Base}, declared.class.ClassDef.{ClassDef}, declared.class.Member.{Member}}
+use Rattle.rio_format.specs.{declared.kind.Kind.{Kind, TheVariants.{Plain, Counter, Fixed, Counted, Text, Inline, Pointer, Other}}, declared.kind.Primitive.TheVariants.{I32}, declared.value.Part.{Part, Part-F}}
+use Rattle.rio_format.specs.{declared.value.Value.{Value, Int, Bits32, Bits64, Bool as Truth, Text as Chars, List as Items, Object, Pointed, Null, Back, Opaque, out-Value, TheFolds.{fold-Part, fold_out-Part}}, Bodies.{part}}
 use Rattle.rio_format.proofs.ValueCases.{Each, by_cases, fold_Int, fold_Bits32, fold_Bits64, fold_Bool, fold_Text, fold_List, fold_Object, fold_Pointed, fold_Null, fold_Back, fold_Opaque}
 use Rattle.rio_model.specs.Mapping.{Asked, Mapped, Mapping, PartMapping, after_bases, as_version, base_mapped, base_part_of, class_named, convert, described_bases, described_members, each_mapped, flat_mapped, in_description, is_list_of, is_object_value, is_pointer_value, is_text_value, items_mapped, kind_zero, list_as, mapping_of, mapping_step, member_mapped, member_part_of, object_as, object_mapped, or_changed, part_mapping, single_as, zero_of_class}
 use Rattle.rio_model.specs.{Resolving.{built_in_version, is_known_version}, declared.map_fault.MapFault.{MapFault, TheVariants.{KindChanged, NoVersion, NoMemory}}}

@@ -1,10 +1,9 @@
 -- What is said of a scan: its first line, and a line of each row; or of one that isn't read, why.
 use Rattle.std.specs.{Prelude.{◌≡◌, ℕ, ◌+◌, List, [], ◌∷◌, ◌++◌, codes, length, Bool, true, false, Result, Ok, if◌then◌else◌}, Fmt.{decimal}}
 use Rattle.rio_num.specs.{Printed.{name_text, numbered, with_number}, Reading.{◌>>=◌}}
-use Rattle.rio_basket.specs.Texts.{basket_fault_text}
+use Rattle.rio_key.specs.BasketTexts.{basket_fault_text}
 use Rattle.rio_entry.specs.declared.lane.RowFault.{RowFault, TheVariants.{Basket, Entry}}
-use Rattle.rio_types.specs.declared.{class.Base.{Base}, class.ClassDef.{ClassDef}}
-use Rattle.rio_value.specs.declared.value.Value.{Value}
+use Rattle.rio_format.specs.{declared.class.Base.{Base}, declared.class.ClassDef.{ClassDef}, declared.value.Value.{Value}}
 use Rattle.rio_model.specs.{Mapping.{Mapped}, ValueText.{text_of_value}}
 use Rattle.rio_machine.specs.State.{Row}
 use Rattle.rio_step.specs.{Refusing.{row_seen_in}, ReplyText.{row_lines, row_text, text_of}, Step.{rows_told}}

@@ -1,8 +1,6 @@
 -- What is told by a key: a line of a listing, and what its record holds.
 use Rattle.std.specs.{Prelude.{ℕ, ℤ, List, ◌++◌, codes, length, Some, Result, Ok, Err}, List.{flat_map}}
-use Rattle.rio_types.specs.declared.class.ClassDef.{ClassDef}
-use Rattle.rio_value.specs.declared.value.Value.{Value}
-use Rattle.rio_buffer.specs.{Texts.{object_fault_text}, declared.fault.ObjFault.{ObjFault}}
+use Rattle.rio_format.specs.{declared.class.ClassDef.{ClassDef}, declared.value.Value.{Value}, Texts.{object_fault_text}, declared.fault.ObjFault.{ObjFault}}
 use Rattle.rio_key.specs.declared.head.KeyHead.{KeyHead}
 use Rattle.rio_num.specs.{Printed.{item_text, numbered}, Reading.{◌>>=◌}}
 use Rattle.rio_model.specs.{Mapping.{Mapped, as_version}, ValueText.{text_of_value}}

@@ -3,11 +3,10 @@ ghost use Rattle.std.specs.Prelude.{◌≡◌, ◌++◌, ◌<◌, ◌^◌, drop,
 ghost use Rattle.rio_format.specs.Objects.{value_at};
 ghost use Rattle.rio_reply.specs.Told.{fault_text, value_or_fault};
 
-use rio_buffer::ObjFault;
+use rio_format::{Classes, ObjFault};
 use rio_key::KeyHead;
 use rio_num::{Bytes, NoMemory};
 use rio_read::read_object;
-use rio_types::Classes;
 use rio_valtext::print_value;
 use std::alloc::Global;
 

@@ -2,24 +2,21 @@
 ghost use Rattle.std.specs.Prelude.{◌≡◌, ◌++◌, ◌<◌, ◌^◌, codes, drop, length, Ok, Err, IfOk};
 ghost use Rattle.rio_num.specs.Answers.{GivesUnless};
 ghost use Rattle.rio_num.specs.Printed.{item_text};
-ghost use Rattle.rio_format.specs.Objects.{value_at};
+ghost use Rattle.rio_format.specs.{Objects.{value_at}, declared.value.Value.{Value}};
 ghost use Rattle.rio_model.specs.declared.map_fault.MapFault.TheVariants.{NoMemory as OutOfMemory};
 ghost use Rattle.rio_step.specs.ReplyText.{text_of};
 ghost use Rattle.rio_step.specs.Step.{object_told};
-ghost use Rattle.rio_value.specs.declared.value.Value.{Value};
 ghost use Rattle.rio_reply.specs.Told.{record_told_as, told_as, told_of};
 
 use crate::fault::{put_fault, put_stored};
 use crate::item::put_item;
-use rio_buffer::ObjFault;
+use rio_format::{Classes, ObjFault, Value};
 use rio_key::KeyHead;
 use rio_map::as_version;
 use rio_model::MapFault;
 use rio_num::{Bytes, NoMemory};
 use rio_read::read_object;
-use rio_types::Classes;
 use rio_valtext::print_value;
-use rio_value::Value;
 use std::alloc::Global;
 
 // `ok get NAME;CYCLE ` of a key.

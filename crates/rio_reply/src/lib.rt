@@ -26,6 +26,3 @@ pub use reply::{
     put_reply, refusal_reply, save_reply, tree_reply,
 };
 pub use scan::{put_row_fault, put_row_line, put_row_line_as, put_scan_start, row_as};
-
-#[cfg(test)]
-mod tests;

@@ -11,9 +11,8 @@ use rio_entry::RowFault;
 use rio_map::as_version;
 use rio_model::MapFault;
 use rio_num::{Bytes, NoMemory};
-use rio_types::{Base, Classes};
+use rio_format::{Base, Classes, Value, Values};
 use rio_valtext::print_value;
-use rio_value::{Value, Values};
 use std::alloc::Global;
 
 /// Puts `ok scan NAME COUNT` at the end, the first line of a scan. The lines of the rows follow.

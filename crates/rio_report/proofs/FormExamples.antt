@@ -1,8 +1,7 @@
 -- Rows in the forms that are asked, and why they can't be had, computed.
 use Rattle.std.proofs.Common.{◌≡◌, ℕ, [], ◌∷◌, pos, true, false, List, Option, Some, None, codes, refl}
 use Rattle.std.specs.Fmt.{digits}
-use Rattle.rio_types.specs.{declared.class.Base.{Base}, declared.class.ClassDef.{ClassDef}}
-use Rattle.rio_value.specs.declared.value.Value.{Value}
+use Rattle.rio_format.specs.{declared.class.Base.{Base}, declared.class.ClassDef.{ClassDef}, declared.value.Value.{Value}}
 use Rattle.rio_machine.specs.declared.refusal.Refusal.TheVariants.{NoSuchClass, NoVersion}
 use Rattle.rio_tree.specs.{declared.head.Branch.{Branch}, declared.refusal.BranchRefusal.{BranchRefusal}}
 use Rattle.rio_report.specs.{RowForms.{numbered_row, row_form, rows_refusal}, Scan.{count_line, refused_or, row_line}}

@@ -2,7 +2,7 @@
 use Rattle.std.proofs.Common.{◌≡◌, ℕ, zero, suc, ◌+◌, ◌<◌, ◌≤◌, Bool, true, false, List, [], ◌∷◌, map, slice_get, Option, Some, None, is_some, is_none, unwrap_or, refl, sym, ap, ◌∙◌, arith}
 use Rattle.std.proofs.{lemmas.Bool.{and_parts}, lemmas.List.Elements.{All-head, All-tail}, lemmas.Option.{same_Some}}
 use Rattle.std.specs.{List.{All, list_all, range_with_len}, Option.{option_and_then, option_map}}
-use Rattle.rio_types.specs.declared.class.ClassDef.{ClassDef}
+use Rattle.rio_format.specs.declared.class.ClassDef.{ClassDef}
 use Rattle.rio_machine.specs.{RowEntries.{fitting_row}, State.{Row}}
 use Rattle.rio_tree.specs.{WrittenLaws.{stated_defs}, declared.head.Branch.{Branch}, declared.head.TreeHead.{TreeHead}}
 use Rattle.rio_tree.specs.SavedEntries.{all_there, branch_entries, entries_at, rows_by}

@@ -3,8 +3,7 @@ use Rattle.std.proofs.Common.{◌≡◌, true≢false, is_some, ℕ, zero, suc, 
 use Rattle.std.proofs.{lemmas.List.{append-nil, drop_all, FromFn.{get_or-range_with_len, length-range_with_len}}}
 use Rattle.std.specs.{List.{range_with_len}, Option.{option_or}}
 use Rattle.rio_num.{specs.Reading.{◌>>=◌}, proofs.Cases.{or_none}}
-use Rattle.rio_types.specs.{declared.class.Base.{Base}, declared.class.ClassDef.{ClassDef}}
-use Rattle.rio_value.specs.declared.value.Value.{Value}
+use Rattle.rio_format.specs.{declared.class.Base.{Base}, declared.class.ClassDef.{ClassDef}, declared.value.Value.{Value}}
 use Rattle.rio_machine.specs.declared.refusal.Refusal.{Refusal, TheVariants.{NoSuchClass, NoVersion as Unversioned}}
 use Rattle.rio_model.specs.{Declaring.{is_declared}, Resolving.{is_known_version}}
 use Rattle.rio_model.specs.{Mapping.{Mapped}, declared.map_fault.MapFault.{MapFault, TheVariants.{KindChanged, NoVersion, NoMemory}}}

@@ -3,14 +3,13 @@ use Rattle.std.proofs.{Common.{◌≡◌, ℕ, ◌+◌, ◌≤◌, List, [], ◌
 use Rattle.std.proofs.lemmas.List.FromFn.{map-range_with_len_more}
 use Rattle.std.specs.{Int.{int_wrap, w128}, List.{range_with_len}}
 use Rattle.rio_num.specs.Reading.{◌>>=◌}
-use Rattle.rio_format.specs.TreeClasses.{tree_classes}
+use Rattle.rio_format.specs.{TreeClasses.{tree_classes}, declared.class.ClassDef.{ClassDef}}
 use Rattle.rio_gen.specs.Summary.{sum_of_row, sum_of_rows}
 use Rattle.rio_head.specs.declared.fault.HeadFault.{HeadFault}
 use Rattle.rio_host.specs.Host.{View}
 use Rattle.rio_key.specs.{declared.head.KeyHead.{KeyHead}, Key.{is_compressed}}
 use Rattle.rio_machine.specs.State.{Row}
 use Rattle.rio_tree.specs.{declared.head.Branch.{Branch}, declared.head.TreeHead.{TreeHead}}
-use Rattle.rio_types.specs.declared.class.ClassDef.{ClassDef}
 use Rattle.rio_entry.specs.SavedRows.{row_there}
 use Rattle.rio_close.specs.{Causes.{IsCallCause}, Opens.{Opens}}
 use Rattle.rio_close.specs.declared.fault.ReportFault.{ReportFault, TheVariants.{BadFile, NoMemory, HostFault, SayFault}}

@@ -1,6 +1,6 @@
 -- What is said of a key of a tree.
 use Rattle.std.proofs.Common.{◌≡◌, ◌++◌, ℕ, List, codes, true, false, Ok, Err, Option, refl, ap, ◌∙◌}
-use Rattle.rio_types.specs.declared.class.ClassDef.{ClassDef}
+use Rattle.rio_format.specs.declared.class.ClassDef.{ClassDef}
 use Rattle.rio_key.specs.{declared.head.KeyHead.{KeyHead}, Key.{is_compressed}}
 use Rattle.rio_tree.specs.{declared.head.TreeHead.{TreeHead}, declared.head.Branch.{Branch}, declared.refusal.BranchRefusal.{BranchRefusal}}
 use Rattle.rio_report.specs.Dump.{stored_tree}

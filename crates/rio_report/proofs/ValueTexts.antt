@@ -4,7 +4,7 @@ use Rattle.std.proofs.lemmas.List.{drop_all}
 use Rattle.std.specs.List.{flat_map}
 use Rattle.rio_model.specs.{Lists.{separated}, ValueText.{text_of_value}}
 use Rattle.rio_tree.specs.{declared.head.Branch.{Branch}, declared.refusal.BranchRefusal.{BranchRefusal}}
-use Rattle.rio_value.specs.declared.value.Value.{Value}
+use Rattle.rio_format.specs.declared.value.Value.{Value}
 use Rattle.rio_entry.specs.BranchRows.{read_values}
 use Rattle.rio_report.specs.Scan.{refused_line, refused_lines}
 use Rattle.rio_report.specs.RowTexts.{first_after, values_behind, values_unrefused}

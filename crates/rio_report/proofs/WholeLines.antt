@@ -3,9 +3,8 @@ use Rattle.std.proofs.Common.{◌≡◌, ℕ, List, [], ◌∷◌, ◌++◌, map
 use Rattle.csv.specs.Writing.{default_writer, is_blank, row_body}
 use Rattle.std.specs.{List.{flat_map}, Fmt.{decimal}}
 use Rattle.rio_num.specs.Printed.{item_text, name_text}
-use Rattle.rio_types.specs.declared.class.ClassDef.{ClassDef}
+use Rattle.rio_format.specs.{declared.class.ClassDef.{ClassDef}, declared.value.Value.{Value, List as Items}}
 use Rattle.rio_key.specs.declared.head.KeyHead.{KeyHead}
-use Rattle.rio_value.specs.declared.value.Value.{Value, List as Items}
 use Rattle.rio_model.specs.{ClassText.{text_of_class}, ValueText.{text_of_value}}
 use Rattle.rio_tree.specs.{Texts.{branch_refusal_name}, declared.head.Branch.{Branch}, declared.refusal.BranchRefusal.{BranchRefusal}}
 use Rattle.rio_report.specs.{Dump.{class_line, content_text, stored_line}, Gathered.{ends_line}}

@@ -1,10 +1,9 @@
 -- The classes that a file describes.
 use Rattle.std.specs.Prelude.{ℕ, ◌==◌, List, [], Result, Ok, Err, if◌then◌else◌}
 use Rattle.rio_num.specs.{At.{At}, Reading.{◌>>=◌}}
-use Rattle.rio_types.specs.declared.class.ClassDef.{ClassDef}
+use Rattle.rio_format.specs.{declared.class.ClassDef.{ClassDef}, ClassList.{class_list_at}}
 use Rattle.rio_key.specs.{declared.head.KeyHead.{KeyHead}, Key.{is_compressed}}
 use Rattle.rio_head.specs.{declared.fault.FileFault.TheVariants.{BadInfo, Compressed}, declared.fault.HeadFault.{HeadFault}, Head.{fault_at}}
-use Rattle.rio_format.specs.ClassList.{class_list_at}
 use Rattle.rio_report.specs.declared.described.Described.{Described}
 use Rattle.rio_dir.specs.Closed.{closed_file, or_fault, record_at}
 use Rattle.rio_close.specs.Opens.{record_in}

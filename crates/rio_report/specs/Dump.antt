@@ -1,12 +1,9 @@
 -- What the verb dump says of a file.
 use Rattle.std.specs.{Prelude.{ℕ, Bool, ◌++◌, List, codes, Option, Some, None, Result, Ok, Err, if◌then◌else◌}, List.{flat_map}, Str.{bytes_eq}, Fmt.{decimal}}
 use Rattle.rio_num.specs.{Printed.{item_text, name_text}, Reading.{◌>>=◌}}
-use Rattle.rio_types.specs.declared.class.ClassDef.{ClassDef}
-use Rattle.rio_value.specs.declared.value.Value.{Value}
+use Rattle.rio_format.specs.{declared.class.ClassDef.{ClassDef}, declared.value.Value.{Value}, Objects.{value_at}, declared.fault.ObjFault.{ObjFault}}
 use Rattle.rio_key.specs.{declared.head.KeyHead.{KeyHead}, Key.{is_compressed}}
 use Rattle.rio_head.specs.declared.fault.HeadFault.{HeadFault}
-use Rattle.rio_format.specs.Objects.{value_at}
-use Rattle.rio_buffer.specs.declared.fault.ObjFault.{ObjFault}
 use Rattle.rio_machine.specs.{RefusalText.{refusal_text}, declared.refusal.Refusal.{Refusal}}
 use Rattle.rio_model.specs.ClassText.{text_of_class}
 use Rattle.rio_reply.specs.Told.{fault_text, value_or_fault}

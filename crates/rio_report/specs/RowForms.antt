@@ -1,8 +1,7 @@
 -- The forms in which the rows of a tree are said: with the objects of a class in the version that is asked, and as lists or as CSV;
 -- and why rows can't be had in a version, as the script's scan is refused.
 use Rattle.std.specs.{Prelude.{ℕ, ◌++◌, List, [], ◌∷◌, codes, Bool, not, Option, Some, None, Ok, Err, if◌then◌else◌}, Fmt.{decimal}}
-use Rattle.rio_types.specs.{declared.class.Base.{Base}, declared.class.ClassDef.{ClassDef}}
-use Rattle.rio_value.specs.declared.value.Value.{Value, List as Items}
+use Rattle.rio_format.specs.{declared.class.Base.{Base}, declared.class.ClassDef.{ClassDef}, declared.value.Value.{Value, List as Items}}
 use Rattle.rio_machine.specs.declared.refusal.Refusal.{Refusal, TheVariants.{NoSuchClass, KindChanged, NoVersion}}
 use Rattle.rio_model.specs.{Declaring.{is_declared}, Mapping.{Mapped}, Resolving.{is_known_version}, ValueText.{text_of_value}}
 use Rattle.rio_model.specs.declared.map_fault.MapFault.TheVariants.{KindChanged as Changed}

@@ -1,7 +1,7 @@
 -- What is printed of a row: its values; or its number and why it can't be had any more in the form that is asked, where the
 -- passes before found that it is.
 use Rattle.std.specs.{Prelude.{ℕ, List, [], ◌∷◌, ◌++◌, codes, Option, Some, None, Ok, Err, Bool, false, if◌then◌else◌}, Fmt.{decimal}}
-use Rattle.rio_value.specs.declared.value.Value.{Value}
+use Rattle.rio_format.specs.declared.value.Value.{Value}
 use Rattle.rio_tree.specs.declared.refusal.BranchRefusal.{BranchRefusal}
 use Rattle.rio_model.specs.{Mapping.{Mapped}, ValueText.{text_of_value}}
 use Rattle.rio_model.specs.declared.map_fault.MapFault.{MapFault, TheVariants.{KindChanged, NoVersion, NoMemory as OutOfMemory}}

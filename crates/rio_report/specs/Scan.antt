@@ -2,7 +2,7 @@
 use Rattle.std.specs.Prelude.{◌≡◌, ℕ, ◌++◌, List, [], ◌∷◌, codes, Option, Some, None, Result, Ok, Err, Bool, if◌then◌else◌}
 use Rattle.std.specs.{List.{filter, flat_map, list_any, range_with_len}, Fmt.{decimal}}
 use Rattle.rio_num.specs.{Printed.{item_text, name_text}, Reading.{◌>>=◌}}
-use Rattle.rio_types.specs.declared.class.ClassDef.{ClassDef}
+use Rattle.rio_format.specs.declared.class.ClassDef.{ClassDef}
 use Rattle.rio_key.specs.{declared.head.KeyHead.{KeyHead}, Key.{is_compressed}}
 use Rattle.rio_head.specs.declared.fault.HeadFault.{HeadFault}
 use Rattle.rio_machine.specs.{RefusalText.{refusal_text}, declared.refusal.Refusal.{Refusal, TheVariants.{NoSuchName, NotATree}}}

@@ -1,8 +1,7 @@
 -- A row with the objects of a class in the version that is asked, made value by value.
 use Rattle.std.specs.Prelude.{ℤ, ◌++◌, List, Option, Some, None, Ok}
 use Rattle.rio_num.specs.Reading.{◌>>=◌}
-use Rattle.rio_types.specs.{declared.class.Base.{Base}, declared.class.ClassDef.{ClassDef}}
-use Rattle.rio_value.specs.declared.value.Value.{Value}
+use Rattle.rio_format.specs.{declared.class.Base.{Base}, declared.class.ClassDef.{ClassDef}, declared.value.Value.{Value}}
 use Rattle.rio_model.specs.Mapping.{Mapped, as_version}
 
 -- one of its values

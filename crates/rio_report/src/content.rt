@@ -11,7 +11,7 @@ use rio_host::Host;
 use rio_key::KeyHead;
 use rio_num::Bytes;
 use rio_reply::{put_item, put_stored};
-use rio_types::Classes;
+use rio_format::Classes;
 use std::alloc::Global;
 
 /// Whether the key is a tree's.

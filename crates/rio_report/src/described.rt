@@ -7,14 +7,13 @@ ghost use Rattle.rio_close.specs.Causes.{AnyKind, IsHostCauseOf, IsOwnCauseOf};
 ghost use Rattle.rio_close.specs.Opens.{Opens, OpensTold};
 ghost use Rattle.rio_report.specs.Described.{info_in};
 
-use rio_buffer::ObjFault;
+use rio_format::{Classes, ObjFault};
 use rio_close::{ReportFault, read_closed, read_record};
 use rio_dir::Closed;
 use rio_head::FileFault;
 use rio_host::Host;
 use rio_info::read_info;
 use rio_key::{KeyFault, read_key};
-use rio_types::Classes;
 use std::alloc::Global;
 
 /// A file as the verbs see it that read values: with the classes that it describes, in its order.

@@ -16,7 +16,7 @@ use rio_close::ReportFault;
 use rio_host::Host;
 use rio_key::KeyHead;
 use rio_num::Bytes;
-use rio_types::Classes;
+use rio_format::Classes;
 use std::alloc::Global;
 
 // Says all classes and then all keys.

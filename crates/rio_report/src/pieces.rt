@@ -15,7 +15,7 @@ use rio_host::Host;
 use rio_key::KeyHead;
 use rio_machine::{Refusal, print_refusal};
 use rio_num::{Bytes, NoMemory};
-use rio_types::{ClassDef, Classes};
+use rio_format::{ClassDef, Classes};
 use std::alloc::Global;
 
 // So many bytes are said as soon as they are gathered.

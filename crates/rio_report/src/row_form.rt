@@ -1,5 +1,5 @@
 //! The form in which the rows of a tree are asked for.
-use rio_types::Base;
+use rio_format::Base;
 use std::marker::Model;
 
 /// With the objects of a class in a version, or with all as they are; and as CSV, or as lists with their numbers.

@@ -25,8 +25,7 @@ use rio_map::MapFault;
 use rio_model::built_in_version;
 use rio_num::NoMemory;
 use rio_tree::BranchRefusal;
-use rio_types::{Base, ClassDef, Classes};
-use rio_value::Values;
+use rio_format::{Base, ClassDef, Classes, Values};
 use std::alloc::Global;
 
 fn is_named(class: &ClassDef, name: &[u8]) -> bool

@@ -30,7 +30,7 @@ use rio_machine::{Refusal, print_refusal};
 use rio_num::{Bytes, NoMemory};
 use rio_reply::put_item;
 use rio_tree::TreeHead;
-use rio_types::{Base, Classes};
+use rio_format::{Base, Classes};
 use std::alloc::Global;
 
 /// The key of the tree of the name, of the greatest cycle, the first of several.

@@ -10,19 +10,18 @@ ghost use Rattle.rio_report.specs.Scan.{count_line, refused_line, refused_lines}
 ghost use Rattle.rio_model.specs.Lists.{separated};
 ghost use Rattle.rio_model.specs.ValueText.{text_of_value};
 ghost use Rattle.rio_step.specs.Refusing.{row_seen_in};
-ghost use Rattle.rio_value.specs.declared.value.Value.{List as Listed};
+ghost use Rattle.rio_format.specs.declared.value.Value.{List as Listed};
 
 use crate::row_form::RowForm;
 use crate::versions::seen_row;
-use rio_basket::BasketFault;
+use rio_key::BasketFault;
 use rio_csv::print_row;
 use rio_entry::{Lane, RowFault};
 use rio_map::MapFault;
 use rio_num::{Bytes, NoMemory};
 use rio_tree::{Branch, BranchRefusal};
-use rio_types::Classes;
+use rio_format::{Classes, Value, Values};
 use rio_valtext::print_value;
-use rio_value::{Value, Values};
 use std::alloc::Global;
 
 // Puts the line of a branch at the end, if it isn't read.

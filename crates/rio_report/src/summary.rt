@@ -21,8 +21,7 @@ use rio_host::Host;
 use rio_key::KeyHead;
 use rio_num::NoMemory;
 use rio_tree::{Branch, TreeHead};
-use rio_types::{ClassDef, Classes};
-use rio_value::{Value, Values};
+use rio_format::{ClassDef, Classes, Value, Values};
 use std::alloc::Global;
 
 // So many classes a class list describes first, those of trees.

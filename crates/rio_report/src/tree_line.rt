@@ -10,15 +10,13 @@ ghost use Rattle.rio_tree.specs.declared.fault.TreeFault.TheVariants.{MissingMem
 ghost use Rattle.rio_tree.specs.Header.{tree_head_in};
 ghost use Rattle.rio_report.specs.TreeTexts.{IsFoundTree, TreeOrText};
 
-use rio_buffer::ObjFault;
+use rio_format::{Classes, ObjFault, Value};
 use rio_close::{ReportFault, read_up_to};
 use rio_host::Host;
 use rio_key::KeyHead;
 use rio_num::{Bytes, NoMemory};
 use rio_read::read_object;
 use rio_tree::{TreeFault, TreeHead, read_tree};
-use rio_types::Classes;
-use rio_value::Value;
 use std::alloc::Global;
 
 /// The header of a tree, or the text that is said in its place.

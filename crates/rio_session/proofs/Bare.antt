@@ -4,7 +4,7 @@ use Rattle.std.proofs.lemmas.List.Folds.{flat_map-map}
 use Rattle.std.specs.{List.{find, sum_by}, Option.{option_map}}
 use Rattle.rio_tree.specs.{HeaderLength.{header_length}, declared.basket_at.BasketAt.{BasketAt}}
 use Rattle.rio_machine.specs.Limits.{head_length}
-use Rattle.rio_basket.specs.Cut.{basket_with}
+use Rattle.rio_key.specs.Cut.{basket_with}
 use Rattle.rio_state.specs.TreeLengths.{TreeLengths, basket_lengths, save_lengths}
 use Rattle.rio_state.specs.Closing.{padded_length}
 use Rattle.rio_fill.specs.{Fill.{BranchFill, TreeFill, defs_of}, Room.{without_room}}

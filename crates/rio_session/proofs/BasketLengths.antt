@@ -7,7 +7,7 @@ use Rattle.rio_num.specs.{At.{place_len_of}, Layout.{behind, broken, choice, don
 use Rattle.rio_num.proofs.{Plain.{value_ok}, ReadLaws.{bind_ok, ok_is}}
 use Rattle.rio_key.specs.{BasketFront.{basket_front, number_within}, BasketHead.{basket_head_of}, Key.{key_fields, key_layout}}
 use Rattle.rio_key.specs.{declared.basket_head.BasketFront.{BasketFront}, declared.fault.KeyFault.{KeyFault, TheVariants.{Short}}}
-use Rattle.rio_basket.specs.{Entries.{entries_in, laid_entries, offsets_in, sound_layout_in}, Stored.{layout_by, layout_in}, declared.layout.Layout.{Layout}}
+use Rattle.rio_key.specs.{BasketEntries.{entries_in, laid_entries, offsets_in, sound_layout_in}, StoredLayout.{layout_by, layout_in}, declared.basket_layout.Layout.{Layout}}
 
 -- ---- what reading takes
 

@@ -4,13 +4,12 @@ use Rattle.std.proofs.lemmas.{Bool.{and_parts, eq-eqb, eqb-true, leb-true, le-le
 use Rattle.std.specs.{Prelude.{if◌then◌else◌, is_none, is_some, option_and_then}, List.{AllByRecursion, find, flat_map}, Option.{option_map}, Result.{result_ok}}
 use Rattle.rio_num.specs.Reading.{some_if}
 use Rattle.rio_num.proofs.ReadLaws.{if_is}
-use Rattle.rio_key.specs.declared.head.KeyHead.{KeyHead}
-use Rattle.rio_types.specs.declared.class.ClassDef.{ClassDef}
+use Rattle.rio_key.specs.{declared.head.KeyHead.{KeyHead}, Cut.{Cut}, BasketEntries.{entries_in}, declared.basket_fault.BasketFault.{BasketFault}}
+use Rattle.rio_format.specs.declared.class.ClassDef.{ClassDef}
 use Rattle.rio_dir.specs.Table.{head_of}
 use Rattle.rio_chain.specs.{Placing.{file_end}, Segments.{GapAt, HoldsLinks, IsChain, Link, RecordAt, end_from, link_length}}
 use Rattle.rio_chain.proofs.PutChain.{map_end}
 use Rattle.rio_machine.specs.{RowEntries.{fitting_row}, State.{State}}
-use Rattle.rio_basket.specs.{Cut.{Cut}, Entries.{entries_in}, declared.fault.BasketFault.{BasketFault}}
 use Rattle.rio_tree.specs.{Index.{basket_counts}, SavedEntries.{all_there, branch_entries, counted_entries, entries_of_baskets, rows_by, rows_of}, WrittenLaws.{stated_defs}}
 use Rattle.rio_tree.specs.{declared.basket_at.BasketAt.{BasketAt}, declared.head.Branch.{Branch}, declared.head.TreeHead.{TreeHead}}
 use Rattle.rio_fill.specs.Fill.{BranchFill}

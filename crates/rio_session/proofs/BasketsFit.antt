@@ -5,8 +5,8 @@ use Rattle.rio_num.proofs.TextLengths.{short_text_bytes}
 use Rattle.rio_leaf.specs.declared.branch.BranchDef.{BranchDef}
 use Rattle.rio_chain.specs.{Adjoining.{AreSegments}, Placing.{FreeSpace, end_after, file_end, place_of, space_of, with_segment}, Segments.{Link, segment_of}, declared.segment.Segment.{Segment}}
 use Rattle.rio_chain.proofs.Laying.{laid_put}
-use Rattle.rio_basket.specs.{Open.{OpenBasket, entries_length}, Record.{FitsBasketRecord, basket_data, basket_key_length}}
-use Rattle.rio_basket.proofs.HeldLaws.{data_with_offsets, data_without_offsets}
+use Rattle.rio_key.specs.{OpenBasket.{OpenBasket, entries_length}, BasketRecord.{FitsBasketRecord, basket_data, basket_key_length}}
+use Rattle.rio_key.proofs.HeldLaws.{data_with_offsets, data_without_offsets}
 use Rattle.rio_tree.specs.Header.{has_offsets}
 use Rattle.rio_close.proofs.Fitting.{place_low}
 use Rattle.rio_effect.specs.{BasketRuns.{CanAllBePut}, Changes.{basket_added, basket_place, changed}, PutBaskets.{CanBePut}, TreeRecords.{BasketWords, basket_with_words, length_of_basket, words_of_basket}}

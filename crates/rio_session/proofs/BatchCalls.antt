@@ -5,7 +5,7 @@ use Rattle.std.specs.{Prelude.{if◌then◌else◌, nat_lt, sum}, List.{All, lis
 use Rattle.rio_num.specs.Word.{is_item_text}
 use Rattle.rio_host.specs.Host.{IsLawful, View}
 use Rattle.rio_key.specs.declared.head.KeyHead.{KeyHead}
-use Rattle.rio_types.specs.declared.class.ClassDef.{ClassDef}
+use Rattle.rio_format.specs.declared.class.ClassDef.{ClassDef}
 use Rattle.rio_dir.specs.Table.{greatest_cycle, head_of, is_before, is_of_name, with_head, with_heads}
 use Rattle.rio_chain.specs.{Adjoining.{AreSegments}, Placing.{file_end, place_of, record_count, with_segment}}
 use Rattle.rio_model.specs.StateClasses.{StateClasses}

@@ -2,7 +2,7 @@
 use Rattle.std.proofs.Common.{◌≡◌, ℕ, ◌+◌, ◌^◌, ◌<◌, List, [], ◌∷◌, length, map, None, Result, Ok, Err, IfOk, true, false, refl, sym, subst, ◌∙◌}
 use Rattle.std.specs.{Prelude.{sum}, List.{All}}
 use Rattle.rio_host.specs.Host.{IsLawful, View}
-use Rattle.rio_types.specs.declared.class.ClassDef.{ClassDef}
+use Rattle.rio_format.specs.declared.class.ClassDef.{ClassDef}
 use Rattle.rio_key.specs.declared.head.KeyHead.{KeyHead}
 use Rattle.rio_dir.specs.Table.{with_heads}
 use Rattle.rio_chain.specs.Placing.{file_end, place_of, record_count}

@@ -3,11 +3,11 @@ use Rattle.std.proofs.Common.{◌≡◌, ◌∙◌, ℕ, ◌+◌, ◌<◌, ◌�
 use Rattle.std.proofs.lemmas.Bool.{and_parts}
 use Rattle.std.specs.{Prelude.{nat_lt}, FinMap.{FinMap, get}, List.{list_all}}
 use Rattle.rio_num.specs.Word.{is_item_text, name_order}
-use Rattle.rio_types.specs.declared.class.ClassDef.{ClassDef}
+use Rattle.rio_format.specs.declared.class.ClassDef.{ClassDef}
 use Rattle.rio_chain.specs.{Adjoining.{AreSegments}, Changes.{with_records}, Placing.{HasRoomAt, place_of, record_count}, Segments.{Link, segment_of}}
 use Rattle.rio_model.specs.StateClasses.{StateClasses}
 use Rattle.rio_machine.specs.{State.{State, Tree}, declared.command.Command.TheVariants.{Batch}, declared.command.PutItem.{PutItem}}
-use Rattle.rio_basket.specs.Cut.{Cut}
+use Rattle.rio_key.specs.Cut.{Cut}
 use Rattle.rio_state.specs.{Closing.{held_with, kept_with}, DirectoryKeys.{AreKeysOf}, KeyedRecords.{keyed_records}, Left.{info_head}, Reads.{AreRecordsOf}, TreeLengths.{PendingRows, cuts_of, pending_in}}
 use Rattle.rio_step.proofs.BatchLaws.{same_classes, same_trees}
 use Rattle.rio_step.specs.{Costs.{cost_of}, Refusing.{refusal_of}, Runs.{saved_of}, Statable.{is_statable}, Step.{state_behind, with_object, with_objects}}

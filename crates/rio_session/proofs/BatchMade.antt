@@ -5,7 +5,7 @@ use Rattle.std.proofs.lemmas.{List.Elements.{All-cons, All-head, All-nil, All-ta
 use Rattle.std.specs.{Prelude.{sum}, List.{All, concat, sum_by}}
 use Rattle.rio_num.specs.Room.{Room}
 use Rattle.rio_key.specs.declared.head.KeyHead.{KeyHead}
-use Rattle.rio_types.specs.declared.class.ClassDef.{ClassDef}
+use Rattle.rio_format.specs.declared.class.ClassDef.{ClassDef}
 use Rattle.rio_dir.specs.Table.{with_head}
 use Rattle.rio_chain.specs.{Batches.{AreRecords, AreRecordsFrom}, NewRecords.{IsNewRecord}, Record.{new_key}}
 use Rattle.rio_chain.specs.{declared.key_words.KeyWords.{KeyWords}, declared.record.NewRecord.{NewRecord}}

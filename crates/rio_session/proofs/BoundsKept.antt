@@ -4,7 +4,7 @@ use Rattle.std.proofs.lemmas.{Bool.{and_from, and_parts, leb-true, ltb-true, ne_
 use Rattle.std.specs.List.{AllByRecursion, concat, list_all, sum_by}
 use Rattle.rio_num.specs.Word.{begins_name, goes_on_name, is_name_text}
 use Rattle.rio_leaf.specs.{Stated.{all_leaves, are_branches_behind, has_branch, is_stated_branch, is_stated_shape}, declared.branch.BranchDef.{BranchDef}}
-use Rattle.rio_basket.specs.Open.{entries_length, takes_entry}
+use Rattle.rio_key.specs.OpenBasket.{entries_length, takes_entry}
 use Rattle.rio_tree.specs.{HeaderLength.{basket_count, header_size}, WrittenLaws.{stated_defs}, declared.basket_at.BasketAt.{BasketAt}, declared.head.Branch.{Branch}, declared.head.TreeHead.{TreeHead}}
 use Rattle.rio_fill.specs.{Fill.{BranchFill, TreeFill, branch_added, branch_fill_of, branch_put, branches_added, defs_of, fill_of, takes}, Heads.{AreFillable}, Laws.{IsSmall}, Prepare.{is_sized}, Room.{may_add, may_be_added, without_room}}
 use Rattle.rio_session.specs.{Due.{written_count}, Measures.{IsBoundedBranch, IsBoundedTree, IsSmallRow, flags_for}}

@@ -4,8 +4,8 @@ use Rattle.std.proofs.lemmas.Bool.{and_parts, eqb-true, ltb-true}
 use Rattle.std.proofs.lemmas.List.{length-append, map-append}
 use Rattle.std.specs.{Prelude.{nat_lt, option_and_then}, List.{concat}, Option.{option_map}, Result.{result_ok}}
 use Rattle.rio_num.specs.Reading.{some_if}
-use Rattle.rio_basket.proofs.CutAll.{all_of_cut}
-use Rattle.rio_basket.specs.{Cut.{Cut, all_entries, cut_of, firsts_from}, Entries.{entries_in}, Open.{entries_length}, declared.fault.BasketFault.{BasketFault}}
+use Rattle.rio_key.proofs.CutAll.{all_of_cut}
+use Rattle.rio_key.specs.{Cut.{Cut, all_entries, cut_of, firsts_from}, BasketEntries.{entries_in}, OpenBasket.{entries_length}, declared.basket_fault.BasketFault.{BasketFault}}
 use Rattle.rio_chain.specs.Segments.{Link}
 use Rattle.rio_effect.proofs.SavedEntries.{as_many}
 use Rattle.rio_effect.specs.{PutBaskets.{ArePutBaskets}, SavedRows.{HoldAllEntries, HoldsEntries}}

@@ -1,6 +1,6 @@
 -- A class command by the records of a file agrees with that by what is kept beside it.
 use Rattle.std.proofs.Common.{◌≡◌, ℕ, ◌+◌, ◌<◌, ◌^◌, List, [], ◌∷◌, length, map, true, false, Option, Some, None, refl, sym, ap, ◌∙◌, arith}
-use Rattle.rio_types.specs.declared.class.ClassDef.{ClassDef}
+use Rattle.rio_format.specs.declared.class.ClassDef.{ClassDef}
 use Rattle.rio_key.specs.declared.head.KeyHead.{KeyHead}
 use Rattle.rio_chain.specs.{Changes.{with_record}, Placing.{place_of, record_count, with_segment}, Segments.{Link, segment_of}, declared.key_words.KeyWords.{KeyWords}}
 use Rattle.rio_chain.proofs.{FewerRecords.{keeps_segments}, PutChain.{map_with}}

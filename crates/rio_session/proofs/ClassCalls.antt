@@ -3,9 +3,8 @@ use Rattle.std.proofs.Common.{◌≡◌, ℕ, ◌+◌, ◌^◌, ◌<◌, ◌≤�
 use Rattle.std.proofs.lemmas.{Bool.{leb-false}, List.{length-append}}
 use Rattle.std.specs.{Prelude.{IfSome, if◌then◌else◌, nat_le}, Option.{option_or}}
 use Rattle.rio_host.specs.Host.{IsLawful, View}
-use Rattle.rio_types.specs.declared.class.ClassDef.{ClassDef}
+use Rattle.rio_format.specs.{declared.class.ClassDef.{ClassDef}, WrittenBytes.{length_limit}}
 use Rattle.rio_key.specs.declared.head.KeyHead.{KeyHead}
-use Rattle.rio_format.specs.WrittenBytes.{length_limit}
 use Rattle.rio_model.specs.{Declaring.{rule_fault}, StateClasses.{StateClasses}, Stated.{is_stated_class}}
 use Rattle.rio_model.specs.declared.declare.DeclareFault.{DeclareFault, TheVariants.{TooMany}}
 use Rattle.rio_chain.specs.{NewRecords.{IsNewRecord}, Placing.{file_end, place_of, with_segment}, Record.{FitsWords, key_size}, declared.key_words.KeyWords.{KeyWords}}

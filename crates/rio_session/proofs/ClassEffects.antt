@@ -2,13 +2,12 @@
 use Rattle.std.proofs.Common.{◌≡◌, inl, inr, ℕ, ◌+◌, ◌<◌, ◌≤◌, ◌^◌, ◌≢◌, ◌==◌, ◌&&◌, ◌||◌, List, [], ◌∷◌, ◌++◌, length, map, take, Bool, true, false, cond, not, Option, Some, None, refl, sym, ap, subst, ◌∙◌, arith}
 use Rattle.std.proofs.lemmas.Bool.{and_parts, cases_lt, eq-eqb, eqb-true, or_left, or_parts, or_right}
 use Rattle.std.specs.{Prelude.{IfSome, if◌then◌else◌, is_some}, FinMap.{get}, List.{list_any}}
-use Rattle.rio_types.specs.declared.class.ClassDef.{ClassDef}
+use Rattle.rio_format.specs.declared.class.ClassDef.{ClassDef}
 use Rattle.rio_leaf.specs.declared.branch.BranchDef.{BranchDef}
-use Rattle.rio_key.specs.declared.head.KeyHead.{KeyHead}
+use Rattle.rio_key.specs.{declared.head.KeyHead.{KeyHead}, Cut.{Cut}}
 use Rattle.rio_chain.specs.{Adjoining.{AreSegments}, Changes.{with_record, without_record}, Placing.{IsPlaceFor, place_of, record_count, with_segment}, Releasing.{with_free, without_segment}, Segments.{IsChain, Link, segment_of}}
 use Rattle.rio_chain.specs.declared.segment.Segment.{Segment, TheVariants.{Record, Gap}}
 use Rattle.rio_model.specs.{Declaring.{declared}, Stated.{is_stated_class}}
-use Rattle.rio_basket.specs.Cut.{Cut}
 use Rattle.rio_machine.specs.{Limits.{has_long_entry, has_long_list, is_too_deep}, Rows.{row_fits}, State.{Row, State, Tree}, declared.command.Command.TheVariants.{Class}}
 use Rattle.rio_state.specs.{Closing.{KeptRecords, held_with, kept_in, kept_with, padded_length}, Contents.{file_classes}, DirectoryKeys.{AreKeysOf}, KeyedRecords.{KeyedRecord, begins_at as has_at, first_place, info_key, is_tree_key, is_tree_record, keyed_records, top_keys, tree_records}, Left.{info_head}}
 use Rattle.rio_state.specs.{OneLess.{HasRecord, IsSameWithout, NeedsNoMore}, OneMore.{HasOneMoreIn, KeyIsRead, keyed_bytes}, Reads.{AreRecordsOf, info_place}, Referred.{is_item_record, is_named_basket, is_referred}, TreeLengths.{cuts_of, none_pending, pending_in}, Trees.{all_places_named, header_in}}

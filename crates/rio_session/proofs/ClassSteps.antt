@@ -1,7 +1,7 @@
 -- A class command is the step of its command.
 use Rattle.std.proofs.Common.{◌≡◌, ℕ, ◌+◌, ◌-◌, ◌*◌, ◌^◌, ◌<◌, ◌≤◌, List, [], ◌∷◌, length, min, sum, Option, Some, None, Bool, true, false, refl, sym, ap, ◌∙◌, arith}
 use Rattle.std.specs.{Prelude.{if◌then◌else◌, is_some}, List.{list_all}}
-use Rattle.rio_types.specs.declared.class.ClassDef.{ClassDef}
+use Rattle.rio_format.specs.declared.class.ClassDef.{ClassDef}
 use Rattle.rio_chain.specs.{Changes.{with_record}, Placing.{file_end, place_of, record_count, with_segment}}
 use Rattle.rio_machine.specs.{State.{State}, declared.command.Command.TheVariants.{Class}}
 use Rattle.rio_machine.specs.{declared.command.Outcome.TheVariants.{Refused}, declared.refusal.Refusal.{Refusal, TheVariants.{Full}}}

@@ -2,9 +2,8 @@
 use Rattle.std.proofs.Common.{◌≡◌, ℕ, ℤ, ◌+◌, ◌^◌, ◌<◌, ◌≤◌, List, [], ◌∷◌, Option, Some, None, Result, Ok, Err, IfOk, Bool, true, false, refl, sym, ap, subst, ◌∙◌, arith}
 use Rattle.rio_host.specs.Host.{IsLawful, View}
 use Rattle.rio_num.specs.Word.{is_item_text}
-use Rattle.rio_types.specs.declared.class.ClassDef.{ClassDef}
+use Rattle.rio_format.specs.{declared.class.ClassDef.{ClassDef}, declared.value.Value.{Value}}
 use Rattle.rio_key.specs.declared.head.KeyHead.{KeyHead}
-use Rattle.rio_value.specs.declared.value.Value.{Value}
 use Rattle.rio_dir.specs.Table.{head_of, with_head}
 use Rattle.rio_chain.specs.Placing.{file_end, place_of, record_count}
 use Rattle.rio_machine.specs.{Limits.{head_length}, State.{State}}

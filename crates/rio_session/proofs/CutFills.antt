@@ -3,7 +3,7 @@ use Rattle.std.proofs.Common.{◌≡◌, ℕ, zero, suc, ◌+◌, ◌-◌, ◌�
 use Rattle.std.proofs.lemmas.List.{map-append}
 use Rattle.std.specs.Prelude.{if◌then◌else◌, nat_le, slice_get, unwrap_or}
 use Rattle.rio_leaf.specs.declared.branch.BranchDef.{BranchDef}
-use Rattle.rio_basket.specs.{Cut.{Cut, basket_with, cut_more, cut_of}, Open.{entries_length, takes_entry}}
+use Rattle.rio_key.specs.{Cut.{Cut, basket_with, cut_more, cut_of}, OpenBasket.{entries_length, takes_entry}}
 use Rattle.rio_state.specs.TreeLengths.{BasketLengths, basket_lengths, entries_by_branch, open_baskets}
 use Rattle.rio_fill.proofs.CutLaws.{cut_behind_more, cut_full, cut_taken}
 use Rattle.rio_fill.specs.Fill.{BranchFill, branch_added, branch_put, branches_added, defs_of, has_no_entries, takes}

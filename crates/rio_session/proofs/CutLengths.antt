@@ -3,8 +3,8 @@ use Rattle.std.proofs.Common.{◌≡◌, ◌∙◌, ℕ, ◌+◌, ◌==◌, Bool
 use Rattle.std.proofs.lemmas.{Bool.{and_parts, lt-ltb, ltb-true}, List.{length-append, length-map, Elements.{All-head, All-tail}, Sums.{sum_by-cons}}}
 use Rattle.std.specs.List.{All, filter, list_all, sum_by}
 use Rattle.rio_leaf.specs.declared.branch.BranchDef.{BranchDef}
-use Rattle.rio_types.specs.declared.class.ClassDef.{ClassDef}
-use Rattle.rio_basket.specs.Cut.{Cut, basket_with, baskets_of_cut, firsts_from}
+use Rattle.rio_format.specs.declared.class.ClassDef.{ClassDef}
+use Rattle.rio_key.specs.Cut.{Cut, basket_with, baskets_of_cut, firsts_from}
 use Rattle.rio_machine.specs.{Limits.{head_length}, State.{Row}}
 use Rattle.rio_tree.specs.{HeaderLength.{basket_count, header_length}, WrittenLaws.{stated_defs}, declared.basket_at.BasketAt.{BasketAt}, declared.head.Branch.{Branch}}
 use Rattle.rio_state.specs.{TreeLengths.{TreeLengths, basket_lengths, cut_count, cuts_of, open_baskets, put_count, tree_lengths}, Trees.{RecordsAt}}

@@ -1,7 +1,7 @@
 -- What a delete does, by its judgement and what a session keeps.
 use Rattle.std.proofs.Common.{◌≡◌, inl, inr, ℕ, List, Some, None, Result, IfOk, true, false, refl, sym, ap, subst, ◌∙◌}
 use Rattle.rio_host.specs.Host.{IsLawful, View}
-use Rattle.rio_types.specs.declared.class.ClassDef.{ClassDef}
+use Rattle.rio_format.specs.declared.class.ClassDef.{ClassDef}
 use Rattle.rio_key.specs.declared.head.KeyHead.{KeyHead}
 use Rattle.rio_num.specs.Word.{is_item_text}
 use Rattle.rio_step.specs.Statable.{IsStatable}

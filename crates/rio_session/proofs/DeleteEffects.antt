@@ -3,7 +3,7 @@ use Rattle.std.proofs.Common.{◌≡◌, ◌∙◌, ◌⊎◌, inl, inr, ⊎_eli
 use Rattle.std.proofs.lemmas.{Bool.{and_from, eq-eqb, eqb-true, or_right}, List.{length-append, length-map, take_all}, List.Elements.{All-head, All-tail}, List.Sums.{sum_by-cons}, List.Sorted.{Contains-permutation, IsPermutation-sym, length_permutation}, Option.{same_Some}}
 use Rattle.std.specs.{Prelude.{if◌then◌else◌}, FinMap.{get, remove}, List.{All, Contains, find, flat_map, list_any, sum_by, Sorted.{IsStrictlyIncreasing}}, Option.{option_map, option_map_or}}
 use Rattle.rio_num.specs.Word.{is_item_text}
-use Rattle.rio_types.specs.declared.class.ClassDef.{ClassDef}
+use Rattle.rio_format.specs.declared.class.ClassDef.{ClassDef}
 use Rattle.rio_key.specs.declared.head.KeyHead.{KeyHead}
 use Rattle.rio_dir.specs.Table.{head_of, is_at_cycle, without_head}
 use Rattle.rio_tree_table.specs.{Table.{tree_of}}

@@ -3,10 +3,9 @@ use Rattle.std.proofs.Common.{◌≡◌, ◌∙◌, ◌==◌, inl, inr, ⊎_elim
 use Rattle.std.proofs.lemmas.{Bool.{and_from, and_parts}, Map.Text.{is_eq-slice_cmp}, Slice.Eq.{bytes_eq-Decides}}
 use Rattle.std.specs.{Prelude.{if◌then◌else◌, is_some}, FinMap.{get, get-remove, remove}, List.{find, flat_map, list_any}, Option.{option_map_or}, Ordering.{eq_by_cmp}, Str.{bytes_eq}}
 use Rattle.rio_num.specs.Word.{name_order}
-use Rattle.rio_key.specs.declared.head.KeyHead.{KeyHead}
-use Rattle.rio_types.specs.declared.class.ClassDef.{ClassDef}
+use Rattle.rio_key.specs.{declared.head.KeyHead.{KeyHead}, Cut.{Cut}}
+use Rattle.rio_format.specs.declared.class.ClassDef.{ClassDef}
 use Rattle.rio_chain.specs.{Changes.{without_record}, Segments.{IsChain, Link}}
-use Rattle.rio_basket.specs.Cut.{Cut}
 use Rattle.rio_machine.proofs.OrderLaws.{names_total}
 use Rattle.rio_machine.specs.{State.{State, Tree, names_tree}, declared.command.Command.TheVariants.{Delete}}
 use Rattle.rio_state.specs.{Contents.{file_classes}, KeyedRecords.{KeyedRecord, info_key, keyed_records, record_at, top_keys, tree_records}, OneLess.{HasRecord, links_without}, OneMore.{HasOneMoreIn}, TreeLengths.{cuts_of}, Trees.{are_named_once, header_in, places_named}}

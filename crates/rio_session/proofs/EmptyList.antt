@@ -1,11 +1,10 @@
 -- The class list of no classes is short: what is written for the classes of trees is bounded part by part.
 use Rattle.std.proofs.Common.{◌≡◌, ℕ, ◌+◌, ◌*◌, ◌≤◌, pos, Bool, true, false, codes, List, [], ◌∷◌, ◌++◌, append_assoc, length, map, refl, sym, subst, arith}
 use Rattle.std.proofs.lemmas.List.{append-nil, length-append, length-map}
-use Rattle.rio_types.specs.declared.class.{Base.{Base}, ClassDef.{ClassDef}, Member.{Member}}
-use Rattle.rio_types.specs.declared.kind.Kind.{Kind, TheVariants.{Plain, Counter, Fixed, Counted, Text as Texted, Inline, Pointer, Other}}
-use Rattle.rio_types.specs.declared.kind.Primitive.{Primitive, TheVariants.{I8, I16, I32, I64, U8, U16, U32, U64, Bool as Boolean, F32, F64}}
-use Rattle.rio_value.specs.{declared.value.Part.{Part}, declared.value.Value.{Value, Int, Text, List as Items, Object, Pointed}}
-use Rattle.rio_buffer.specs.ReaderState.{no_words}
+use Rattle.rio_format.specs.{declared.class.Base.{Base}, declared.class.ClassDef.{ClassDef}, declared.class.Member.{Member}}
+use Rattle.rio_format.specs.declared.kind.Kind.{Kind, TheVariants.{Plain, Counter, Fixed, Counted, Text as Texted, Inline, Pointer, Other}}
+use Rattle.rio_format.specs.declared.kind.Primitive.{Primitive, TheVariants.{I8, I16, I32, I64, U8, U16, U32, U64, Bool as Boolean, F32, F64}}
+use Rattle.rio_format.specs.{declared.value.Part.{Part}, declared.value.Value.{Value, Int, Text, List as Items, Object, Pointed}, ReaderState.{no_words}}
 use Rattle.rio_format.specs.{Bodies.{part}, Descriptions.{description_classes}, Slots.{kinded}, Written.{writing_of}}
 use Rattle.rio_format.specs.TreeClasses.{branch_class, branch_members, kind_leaf, leaf_class, leaf_members, object_branch_class, object_branch_members, tree_class, tree_classes, tree_members}
 use Rattle.rio_format.specs.WrittenBytes.{class_list_bytes, length_limit}

@@ -6,7 +6,7 @@ use Rattle.rio_num.specs.Word.{is_item_text, name_order}
 use Rattle.rio_num.proofs.BytesEq.{bytes_eq-sym}
 use Rattle.rio_leaf.specs.declared.branch.BranchDef.{BranchDef}
 use Rattle.rio_chain.specs.{Placing.{file_end, record_count}, Segments.{IsChain, Link, segment_of}, declared.segment.Segment.{Segment}}
-use Rattle.rio_basket.specs.Cut.{Cut, cut_of}
+use Rattle.rio_key.specs.Cut.{Cut, cut_of}
 use Rattle.rio_machine.proofs.OrderLaws.{names_tie, names_total}
 use Rattle.rio_machine.specs.{Limits.{branch_limit}, Rows.{entries_of}, State.{Row, State, Tree}, declared.command.Command.TheVariants.{Fill}}
 use Rattle.rio_tree.specs.{WrittenLaws.{stated_defs}, declared.basket_at.BasketAt.{BasketAt}, declared.head.Branch.{Branch}}

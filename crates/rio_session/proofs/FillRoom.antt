@@ -4,7 +4,7 @@ use Rattle.std.specs.List.{find, sum_by}
 use Rattle.rio_leaf.specs.declared.branch.BranchDef.{BranchDef}
 use Rattle.rio_chain.specs.{Placing.{place_of, record_count, with_segment}, declared.segment.Segment.{Segment}}
 use Rattle.rio_dir.specs.Table.{heads_size}
-use Rattle.rio_basket.specs.Cut.{basket_with}
+use Rattle.rio_key.specs.Cut.{basket_with}
 use Rattle.rio_machine.specs.{Limits.{head_length}, State.{Row, State, Tree}, declared.command.Command.TheVariants.{Fill}}
 use Rattle.rio_state.specs.{Closing.{padded_length}, Sizes.{close_size}, TreeLengths.{BasketLengths, TreeLengths, basket_lengths, save_lengths}}
 use Rattle.rio_tree.specs.HeaderLength.{header_length}

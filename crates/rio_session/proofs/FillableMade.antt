@@ -5,7 +5,7 @@ use Rattle.std.specs.{Prelude.{MatchBool}, Cmp.{eq_by_cmp_equiv}, FinMap.{contai
 use Rattle.std.proofs.lemmas.Slice.Eq.{bytes_eq-Decides}
 use Rattle.rio_num.specs.Word.{is_item_text}
 use Rattle.rio_num.proofs.Cases.{some_of}
-use Rattle.rio_types.specs.declared.class.ClassDef.{ClassDef}
+use Rattle.rio_format.specs.declared.class.ClassDef.{ClassDef}
 use Rattle.rio_leaf.specs.{Stated.{are_stated_branches}, declared.branch.BranchDef.{BranchDef}}
 use Rattle.rio_dir.specs.Unborn.{is_unborn}
 use Rattle.rio_model.specs.{Declaring.{shape_lacks_class}, StateClasses.{StateClasses}}

@@ -2,11 +2,10 @@
 use Rattle.std.proofs.Common.{◌≡◌, ◌∙◌, inl, inr, ℕ, ◌+◌, ◌*◌, ◌≤◌, ◌==◌, Bool, true, false, List, [], ◌∷◌, codes, length, map, Option, Some, None, refl, sym, ap, subst, arith}
 use Rattle.std.proofs.lemmas.{Bool.{eqb-true}, List.{nil_from_length, Elements.{All-head, All-tail, All-weaker}, Sorted.{Contains-permutation, sum_by-IsPermutation}, Sums.{sum_by-append, sum_by-cons, sum_by-le-sum_by}}, Option.{same_Some}, Slice.Eq.{bytes_eq-Decides}}
 use Rattle.std.specs.{Prelude.{if◌then◌else◌}, FinMap.{entries, get}, List.{All, cons_option, find, flat_map, sum_by}, Option.{option_map, option_map_or}, Str.{bytes_eq}}
-use Rattle.rio_key.specs.{Written.{written_key}, declared.head.KeyHead.{KeyHead}}
+use Rattle.rio_key.specs.{Written.{written_key}, declared.head.KeyHead.{KeyHead}, Cut.{Cut}}
 use Rattle.rio_dir.specs.Table.{heads_size}
 use Rattle.rio_chain.specs.{Placing.{file_end, record_count}, Segments.{Link, chain_end, segment_of}}
 use Rattle.rio_chain.proofs.PutChain.{map_end}
-use Rattle.rio_basket.specs.Cut.{Cut}
 use Rattle.rio_machine.specs.{Limits.{head_length}, State.{Row, State, Tree}, declared.command.Command.{Command}}
 use Rattle.rio_tree.specs.{declared.basket_at.BasketAt.{BasketAt}, declared.head.TreeHead.{TreeHead}}
 use Rattle.rio_tree_table.specs.declared.table.KeptTree.{KeptTree}

@@ -2,8 +2,7 @@
 use Rattle.std.proofs.Common.{◌≡◌, inl, inr, ℕ, ◌^◌, ◌<◌, ◌∙◌, ◌++◌, ◌==◌, List, [], ◌∷◌, length, map, Option, Some, None, false, refl, sym, ap, subst, arith}
 use Rattle.std.proofs.lemmas.Bool.{eqb-true}
 use Rattle.std.specs.{List.{cons_option}, Option.{option_map}, Prelude.{is_some}}
-use Rattle.rio_types.specs.declared.class.ClassDef.{ClassDef}
-use Rattle.rio_format.specs.Growth.{PicksStay}
+use Rattle.rio_format.specs.{declared.class.ClassDef.{ClassDef}, Growth.{PicksStay}}
 use Rattle.rio_format.proofs.Picks.{later_leave_picks}
 use Rattle.rio_model.specs.StateClasses.{HasShortList}
 use Rattle.rio_chain.specs.{Changes.{with_record}, Placing.{IsPlaceFor}, Record.{record_bytes}, Segments.{IsChain, Link, segment_of}}

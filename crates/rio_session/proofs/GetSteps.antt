@@ -3,10 +3,8 @@ use Rattle.std.proofs.Common.{◌≡◌, ◌==◌, ℕ, ℤ, List, [], ◌∷◌
 use Rattle.std.proofs.{lemmas.Bool.{and_parts, eqb-true}, lemmas.Slice.Eq.{bytes_eq-Decides}}
 use Rattle.std.specs.{Prelude.{IsSome, option_and_then, unwrap_or}, FinMap.{get}, List.{Contains}, Option.{option_map_or}, Str.{bytes_eq}}
 use Rattle.rio_num.specs.Reading.{◌>>=◌}
-use Rattle.rio_types.specs.declared.class.ClassDef.{ClassDef}
+use Rattle.rio_format.specs.{declared.class.ClassDef.{ClassDef}, declared.value.Value.{Value, Null}, Objects.{value_at}}
 use Rattle.rio_key.specs.declared.head.KeyHead.{KeyHead}
-use Rattle.rio_value.specs.declared.value.Value.{Value, Null}
-use Rattle.rio_format.specs.Objects.{value_at}
 use Rattle.rio_dir.specs.Table.{head_of, is_at_cycle}
 use Rattle.rio_chain.specs.Segments.{RecordAt}
 use Rattle.rio_machine.specs.{State.{State}, declared.command.Command.{TheVariants.{Get}}, declared.command.Outcome.{Outcome, TheVariants.{Accepted, Refused}}}

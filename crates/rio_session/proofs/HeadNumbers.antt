@@ -4,8 +4,8 @@ use Rattle.std.proofs.Common.{◌≡◌, ◌∙◌, ◌<◌, ◌≤◌, ◌^◌,
 use Rattle.std.proofs.lemmas.{Bool.{and_from, and_parts, lt-ltb, ltb-true}, List.{length-map}, List.Elements.{All-append, All-cons, All-head, All-nil, All-tail}, Option.{same_Some}}
 use Rattle.std.specs.{Prelude.{if◌then◌else◌, is_none, option_and_then, slice_get, unwrap_or}, List.{All, list_all}, Option.{ok_or, option_map}, Ordering.{int_eq}}
 use Rattle.rio_num.proofs.ReadLaws.{bind_ok}
-use Rattle.rio_value.specs.{Accessors.{integer_in, layer_integer}, Integers.{fits_signed}, PartsWithBases.{member_in}, declared.value.Part.{Part}}
-use Rattle.rio_value.specs.declared.value.Value.{Value, out-Value, TheOpen.{Value-F, Int, Bits32, Bits64, Bool as Truth, Text, List as Items, Object, Pointed, Null, Back, Opaque}}
+use Rattle.rio_format.specs.{Accessors.{integer_in, layer_integer}, Integers.{fits_signed}, PartsWithBases.{member_in}, declared.value.Part.{Part}}
+use Rattle.rio_format.specs.declared.value.Value.{Value, out-Value, TheOpen.{Value-F, Int, Bits32, Bits64, Bool as Truth, Text, List as Items, Object, Pointed, Null, Back, Opaque}}
 use Rattle.rio_tree.specs.{BranchMembers.{BranchSaid, class_version_said, leaf_items}, Header.{branch_in, branch_known, branches_from, entries_member, has_offsets, known_branch, met_behind, or_refused, tree_head_in}}
 use Rattle.rio_tree.specs.{HeaderLeaves.{LeavesMet, LeavesSaid, name_said, no_leaves_met}, Labels.{ObjectLabels, labels_in, object_behind}, Members.{integer_member, natural, pointers_member}}
 use Rattle.rio_tree.specs.Refusals.{are_in_order, basket_numbered, basket_said, baskets_from, leaves_from, listed_baskets, natural_in, no_leaves, number_baskets, readable_branch, unless_refused}

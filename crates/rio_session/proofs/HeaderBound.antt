@@ -3,15 +3,12 @@ use Rattle.std.proofs.Common.{◌≡◌, ◌==◌, ◌&&◌, ◌||◌, ℕ, ◌+
 use Rattle.std.proofs.{lemmas.Bool.{and_parts, leb-true, ltb-false, or_parts}, lemmas.Fmt.{length-decimal-le}, lemmas.List.{length-append}}
 use Rattle.std.specs.{Prelude.{if◌then◌else◌, nat_lt}, Fmt.{decimal}, List.{flat_map, list_any}, Map.{lookup}, Str.{bytes_eq}}
 use Rattle.rio_num.specs.Word.{is_name_text}
-use Rattle.rio_types.specs.declared.class.ClassDef.{ClassDef}
+use Rattle.rio_format.specs.{declared.class.ClassDef.{ClassDef}, declared.value.Part.{Part}, declared.value.Value.{Value, Int, Bool as Truth, Text, List as Items, Object, Pointed, Null, Back}}
 use Rattle.rio_leaf.specs.{Leaves.{has_counting_leaf, has_leaf, is_dim, is_leaf, is_leaf_count, is_letter_of}, Marks.{before_dimension, before_letter, behind_dimension, between_leaves}, Spelling.{text_of_dim, text_of_leaf, text_of_leaves}}
 use Rattle.rio_leaf.specs.{Stated.{all_leaves, are_branches_behind, are_stated_branches, are_stated_leaves, has_branch, is_stated_branch, is_stated_leaf, is_stated_shape, leaves_of}, declared.branch.BranchDef.{BranchDef}, declared.branch.Shape.{Shape, TheVariants.{Leaves, Class}}}
 use Rattle.rio_leaf.specs.{declared.leaf.Dim.{Dim, TheVariants.{One, Fixed, Counted}}, declared.leaf.Leaf.{Leaf}}
-use Rattle.rio_value.specs.{declared.value.Part.{Part}, declared.value.Value.{Value, Int, Bool as Truth, Text, List as Items, Object, Pointed, Null, Back}}
-use Rattle.rio_format.specs.{Bodies.{part}, TreeClasses.{tree_classes}, Written.{written_form, writing_of}, WrittenList.{array_object, number_part, plain_object, titled_object}}
-use Rattle.rio_types.specs.declared.kind.Kind.TheVariants.{Inline}
-use Rattle.rio_buffer.specs.ReaderState.{no_words}
-use Rattle.rio_format.specs.Slots.{kinded}
+use Rattle.rio_format.specs.{Bodies.{part}, TreeClasses.{tree_classes}, Written.{written_form, writing_of}, WrittenList.{array_object, number_part, plain_object, titled_object}, declared.kind.Kind.TheVariants.{Inline}}
+use Rattle.rio_format.specs.{ReaderState.{no_words}, Slots.{kinded}}
 use Rattle.rio_machine.specs.Limits.{branch_limit, has_many_branches, has_many_leaves, leaf_limit}
 use Rattle.rio_tree.specs.{Header.{branch_leaves}, HeaderLength.{bare_branch, bare_head, header_size}, declared.basket_at.BasketAt.{BasketAt}, declared.head.Branch.{Branch}}
 use Rattle.rio_tree.specs.WrittenTree.{LeafLabels, back_or_null, backs_from, basket_arrays, basket_numbers, branch_label_count, branch_numbers, branch_object, branch_pointer_arrays, branch_pointers, class_of_letter, counter_pointer, is_letter_among, is_unsigned_letter, labels_behind, leaf_backs, leaf_object, leaf_pointers, plain_branch_object, plain_leaf_object, shaped_object, title_of_branch, tree_value_of, width_of_letter, written_count}

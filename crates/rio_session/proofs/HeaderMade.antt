@@ -2,9 +2,7 @@
 use Rattle.std.proofs.Common.{◌≡◌, ℕ, ◌-◌, ◌≤◌, ◌<◌, ◌^◌, List, [], codes, length, Result, IfOk, sym, subst, ap, ◌∙◌, refl, arith}
 use Rattle.rio_num.specs.Text.{text_bytes}
 use Rattle.rio_num.proofs.TextLengths.{short_text_bytes}
-use Rattle.rio_types.specs.declared.class.ClassDef.{ClassDef}
-use Rattle.rio_value.specs.declared.value.Value.{Value}
-use Rattle.rio_format.specs.{TreeClasses.{tree_classes}, Written.{written_form}}
+use Rattle.rio_format.specs.{declared.class.ClassDef.{ClassDef}, declared.value.Value.{Value}, TreeClasses.{tree_classes}, Written.{written_form}}
 use Rattle.rio_machine.specs.Limits.{head_length}
 use Rattle.rio_chain.specs.{Record.{FitsWords, new_key, record_bytes}, Segments.{IsRecord}, declared.record.NewRecord.{NewRecord}, declared.key_words.KeyWords.{KeyWords}}
 use Rattle.rio_tree.specs.{HeaderLength.{basket_count, header_length}, WrittenLaws.{stated_defs}, WrittenTree.{tree_value_of}, declared.head.TreeHead.{TreeHead}}

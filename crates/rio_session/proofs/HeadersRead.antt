@@ -6,9 +6,8 @@ use Rattle.rio_num.specs.{Reading.{some_if}, Room.{is_padding}}
 use Rattle.rio_num.proofs.ReadLaws.{if_is, ok_is}
 use Rattle.rio_leaf.specs.{declared.branch.BranchDef.{BranchDef}, declared.branch.Shape.{Shape, TheVariants.{Leaves, Class}}}
 use Rattle.rio_leaf.specs.Stated.{are_stated_branches}
-use Rattle.rio_value.specs.{CodeLaws.{coded_decides}, Integers.{fits_signed}, declared.value.Value.{Value, Object, Pointed}}
-use Rattle.rio_value.specs.contracts.value.Value as values
-use Rattle.rio_buffer.specs.{Frames.{Step}, ReaderState.{ReaderState}}
+use Rattle.rio_format.specs.{CodeLaws.{coded_decides}, Integers.{fits_signed}, declared.value.Value.{Value, Object, Pointed}, Frames.{Step}, ReaderState.{ReaderState}}
+use Rattle.rio_format.specs.contracts.value.Value as values
 use Rattle.rio_format.specs.{Bodies.{part}, Objects.{first_at}, WrittenList.{array_object, number_part, titled_object}}
 use Rattle.rio_tree.specs.{Header.{branch_leaves, tree_head_in}, HeaderLength.{basket_count}, declared.basket_at.BasketAt.{BasketAt}, declared.fault.TreeFault.{TreeFault}, declared.head.Branch.{Branch}, declared.head.TreeHead.{TreeHead}}
 use Rattle.rio_tree.specs.WrittenLaws.{AreReadableBranches, FitsTreeHeader, IsVersionFor, WrittenTreeIsRead, branch_fits_header, counting_branches, stated_defs}

@@ -5,10 +5,8 @@ use Rattle.std.specs.{List.{list_all, list_any}, Option.{option_map_or}, Result.
 use Rattle.rio_num.specs.{Text.{text_bytes}, Word.{is_item_text}}
 use Rattle.rio_num.proofs.TextLengths.{short_text_bytes}
 use Rattle.rio_leaf.specs.{Stated.{are_stated_branches}, declared.branch.BranchDef.{BranchDef}, declared.branch.Shape.{Shape, TheVariants.{Leaves, Class}}}
-use Rattle.rio_types.specs.{Classes.{newer_of, newest_in}, declared.class.ClassDef.{ClassDef}}
-use Rattle.rio_value.specs.Integers.{fits_signed}
+use Rattle.rio_format.specs.{Classes.{newer_of, newest_in}, declared.class.ClassDef.{ClassDef}, Integers.{fits_signed}, Growth.{PicksStay}, TreeClasses.{tree_classes, written_classes}}
 use Rattle.rio_chain.specs.Record.{key_size}
-use Rattle.rio_format.specs.{Growth.{PicksStay}, TreeClasses.{tree_classes, written_classes}}
 use Rattle.rio_format.proofs.Picks.{later_leave_picks}
 use Rattle.rio_model.specs.{Declaring.{shape_lacks_class}, Described.{has_class_numbers, is_described}, StateClasses.{StateClasses}, Stated.{has_stated_parts, is_class_version}}
 use Rattle.rio_machine.specs.{Limits.{has_many_branches}, State.{State}}

@@ -3,7 +3,7 @@ use Rattle.std.proofs.Common.{◌≡◌, ◌≢◌, ℕ, zero, suc, ◌+◌, ◌
 use Rattle.std.proofs.{Math.Seq.{take-length}, lemmas.Option.{same_Some}}
 use Rattle.rio_chain.specs.Segments.{Link}
 use Rattle.rio_entry.proofs.Walks.{later_basket}
-use Rattle.rio_basket.specs.Entries.{entries_in}
+use Rattle.rio_key.specs.BasketEntries.{entries_in}
 use Rattle.rio_entry.specs.{Lanes.{AreLanes as AreFileLanes, IsHeld as IsFileHeld}, StoredEntries.{StoredEntries}, declared.lane.Lane.{Lane}}
 use Rattle.rio_fill.specs.Fill.{BranchFill, TreeFill, count_before, entry_count}
 use Rattle.std.specs.Option.{option_map}

@@ -1,6 +1,6 @@
 -- What a judgement by the parts of a session says of what it keeps.
 use Rattle.std.proofs.Common.{◌≡◌, List, subst}
-use Rattle.rio_types.specs.declared.class.ClassDef.{ClassDef}
+use Rattle.rio_format.specs.declared.class.ClassDef.{ClassDef}
 use Rattle.rio_key.specs.declared.head.KeyHead.{KeyHead}
 use Rattle.rio_tree_table.specs.declared.table.KeptTree.{KeptTree}
 use Rattle.rio_machine.specs.declared.command.Command.{Command}

@@ -3,7 +3,7 @@ use Rattle.std.proofs.Common.{◌≡◌, ◌⊎◌, inl, inr, ℕ, List, Option,
 use Rattle.std.proofs.lemmas.Option.{same_Some}
 use Rattle.std.specs.{FinMap.{get}, List.{Contains}}
 use Rattle.rio_key.specs.declared.head.KeyHead.{KeyHead}
-use Rattle.rio_value.specs.declared.value.Value.{Value}
+use Rattle.rio_format.specs.declared.value.Value.{Value}
 use Rattle.rio_chain.specs.Segments.{Link}
 use Rattle.rio_machine.specs.State.{State}
 use Rattle.rio_state.specs.{DirectoryKeys.{AreKeysOf}, KeyedRecords.{item_of_key, keyed_records}, Reads.{AreRecordsOf}}

@@ -5,7 +5,7 @@ use Rattle.std.specs.{Prelude.{if◌then◌else◌, is_some}, FinMap.{entries, e
 use Rattle.std.specs.{Str.{bytes_eq}, declared.cmp.Ordering.{Ordering, TheVariants.{Less, Equal, Greater}}}
 use Rattle.rio_num.specs.Word.{name_order}
 use Rattle.rio_key.specs.declared.head.KeyHead.{KeyHead}
-use Rattle.rio_value.specs.declared.value.Value.{Value}
+use Rattle.rio_format.specs.declared.value.Value.{Value}
 use Rattle.rio_dir.specs.Table.{AreBehind, AreOrdered, is_at_cycle, is_before, with_head}
 use Rattle.rio_dir.proofs.{TableLists.{behind_too, ordered_with}, TableOrder.{at_is, before_itself, before_trans, else_behind}}
 use Rattle.rio_tree_table.specs.{Table.{tree_of}, declared.table.KeptTree.{KeptTree}}

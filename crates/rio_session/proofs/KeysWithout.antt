@@ -6,7 +6,7 @@ use Rattle.std.specs.{List.{filter, find, list_all, list_any}, Ordering.{eq_by_c
 use Rattle.rio_num.proofs.Cases.{some_of}
 use Rattle.rio_num.specs.Word.{name_order}
 use Rattle.rio_key.specs.declared.head.KeyHead.{KeyHead}
-use Rattle.rio_value.specs.declared.value.Value.{Value}
+use Rattle.rio_format.specs.declared.value.Value.{Value}
 use Rattle.rio_dir.proofs.TableLists.{ordered_without}
 use Rattle.rio_dir.specs.Table.{head_of, is_at_cycle, without_head}
 use Rattle.rio_tree_table.specs.{Table.{is_of_name, tree_of, without_tree}, declared.table.KeptTree.{KeptTree}}

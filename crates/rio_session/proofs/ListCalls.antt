@@ -3,7 +3,7 @@ use Rattle.std.proofs.Common.{◌≡◌, ℕ, ◌+◌, ◌-◌, ◌<◌, ◌≤�
 use Rattle.std.proofs.{Math.Seq.{take-append_seam}, lemmas.Bool.{leb-false}, lemmas.List.{length-append}}
 use Rattle.std.specs.{Prelude.{if◌then◌else◌, nat_le}, Option.{option_or}}
 use Rattle.rio_host.specs.Host.{View}
-use Rattle.rio_types.specs.declared.class.ClassDef.{ClassDef}
+use Rattle.rio_format.specs.declared.class.ClassDef.{ClassDef}
 use Rattle.rio_key.specs.declared.head.KeyHead.{KeyHead}
 use Rattle.rio_model.specs.{Declaring.{class_limit, declared, rule_fault}, StateClasses.{AreAccepted, StateClasses}}
 use Rattle.rio_model.specs.declared.declare.DeclareFault.{DeclareFault, TheVariants.{TooMany}}

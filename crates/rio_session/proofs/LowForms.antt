@@ -4,12 +4,10 @@ use Rattle.std.proofs.lemmas.List.{length-append}
 use Rattle.std.specs.{List.{find}, Int.{cast_unsigned, w16, w32}, Prelude.{slice_index}, Str.{bytes_eq}}
 use Rattle.byteorder.specs.{Endian.{big_bytes}, Numbers.{length-bytes_high_first}}
 use Rattle.rio_num.specs.Text.{long_form, short_form, text_bytes}
-use Rattle.rio_types.specs.declared.class.ClassDef.{ClassDef}
-use Rattle.rio_types.specs.declared.kind.Kind.{Kind, TheVariants.{Plain, Counter, Fixed, Counted, Text as Texted, Inline, Pointer, Other}}
-use Rattle.rio_types.specs.declared.kind.Primitive.{Primitive, TheVariants.{I8, I16, I32, I64, U8, U16, U32, U64, Bool as Boolean, F32, F64}}
-use Rattle.rio_value.specs.declared.value.Value.{Value, Int, Bool as Truth, Text, List as Items, Object, Pointed, Null, Back}
-use Rattle.rio_value.specs.declared.value.Part.{Part}
-use Rattle.rio_buffer.specs.{ReaderState.{WordsMet, with_label}, Writer.{Writer, class_by, class_bytes}}
+use Rattle.rio_format.specs.{declared.class.ClassDef.{ClassDef}, declared.kind.Kind.{Kind, TheVariants.{Plain, Counter, Fixed, Counted, Text as Texted, Inline, Pointer, Other}}}
+use Rattle.rio_format.specs.declared.kind.Primitive.{Primitive, TheVariants.{I8, I16, I32, I64, U8, U16, U32, U64, Bool as Boolean, F32, F64}}
+use Rattle.rio_format.specs.{declared.value.Value.{Value, Int, Bool as Truth, Text, List as Items, Object, Pointed, Null, Back}, declared.value.Part.{Part}}
+use Rattle.rio_format.specs.{ReaderState.{WordsMet, with_label}, Writer.{Writer, class_by, class_bytes}}
 use Rattle.rio_format.specs.{Bodies.{Body, form_of, described, listed, arrayed, opaque}, Prims.{width_of}, declared.form.Form.{Form, TheVariants.{Bare as bare, Numbers as numbers, Headed as headed}}}
 use Rattle.rio_format.specs.Slots.{Field, Slot, any_pointer, based, body_fields, declared_body, flags, kinded, link, many}
 use Rattle.rio_format.specs.Written.{Writing, all, width_in_bits, arrayed_bytes, bare_bytes, body_bytes, both, counted, counted_bytes, described_bytes, fields_bytes, form_bytes, headed_bytes, int_bytes, just, labelled, link_bytes, list_bytes, listed_bytes, number_array_bytes, pointed_bytes, writing_of, writing_step}

@@ -1,9 +1,7 @@
 -- The record of an object, of data that are equal.
 use Rattle.std.proofs.Common.{◌≡◌, ℕ, ◌+◌, List, [], length, Result, IfOk, sym, subst, ap, ◌∙◌}
 use Rattle.rio_num.specs.Text.{text_bytes}
-use Rattle.rio_types.specs.declared.class.ClassDef.{ClassDef}
-use Rattle.rio_value.specs.declared.value.Value.{Value}
-use Rattle.rio_format.specs.Written.{written_form}
+use Rattle.rio_format.specs.{declared.class.ClassDef.{ClassDef}, declared.value.Value.{Value}, Written.{written_form}}
 use Rattle.rio_machine.specs.Limits.{head_length}
 use Rattle.rio_chain.specs.{Record.{key_size, new_key, record_bytes}, declared.record.NewRecord.{NewRecord}, declared.key_words.KeyWords.{KeyWords}}
 use Rattle.rio_effect.specs.ObjectRecord.{object_data}

@@ -3,8 +3,8 @@ use Rattle.std.proofs.Common.{◌≡◌, ℕ, zero, suc, ◌+◌, ◌*◌, ◌/�
 use Rattle.std.proofs.lemmas.{Bool.{eqb-true, lt-ltb, ne_eqb}, List.{append-nil, length-append, map-append}, List.Folds.{concat-append}, List.Sums.{sum_by-append, sum_by-cons, sum_by_push}}
 use Rattle.std.specs.List.{concat, sum_by}
 use Rattle.rio_leaf.specs.declared.branch.BranchDef.{BranchDef}
-use Rattle.rio_basket.specs.{Cut.{basket_with}, Open.{OpenBasket, entries_length}, Record.{basket_data, basket_key_length}}
-use Rattle.rio_basket.proofs.HeldLaws.{data_with_offsets, data_without_offsets}
+use Rattle.rio_key.specs.{Cut.{basket_with}, OpenBasket.{OpenBasket, entries_length}, BasketRecord.{basket_data, basket_key_length}}
+use Rattle.rio_key.proofs.HeldLaws.{data_with_offsets, data_without_offsets}
 use Rattle.rio_machine.specs.Limits.{head_length}
 use Rattle.rio_tree.specs.{Header.{has_offsets}, HeaderLength.{header_size}, declared.basket_at.BasketAt.{BasketAt}}
 use Rattle.rio_chain.specs.{Placing.{place_of, with_segment}, declared.segment.Segment.{Segment}}

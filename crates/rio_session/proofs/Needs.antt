@@ -3,7 +3,7 @@ use Rattle.std.proofs.Common.{◌≡◌, ℕ, ◌+◌, ◌≤◌, true, false, B
 use Rattle.std.proofs.{lemmas.List.{length-append, length-map}, lemmas.Bool.{and_from, and_parts, eqb-true}, lemmas.List.{Filters.{sum_by-filter_both}, Sums.{sum_by-append, sum_by-cons}}, lemmas.Slice.Eq.{bytes_eq-Decides}}
 use Rattle.std.specs.{FinMap.{entries, len-entries}, List.{filter, flat_map, list_all, sum_by}, Option.{option_map_or}}
 use Rattle.rio_key.specs.{Written.{written_key}, declared.head.KeyHead.{KeyHead}}
-use Rattle.rio_value.specs.declared.value.Value.{Value}
+use Rattle.rio_format.specs.declared.value.Value.{Value}
 use Rattle.rio_dir.specs.Table.{heads_size, with_head}
 use Rattle.rio_tree_table.specs.declared.table.KeptTree.{KeptTree}
 use Rattle.rio_chain.specs.{Placing.{record_count}, Record.{new_key}, declared.segment.Segment.{Segment}}

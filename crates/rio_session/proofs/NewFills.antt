@@ -3,8 +3,8 @@ use Rattle.std.proofs.Common.{◌≡◌, ◌∙◌, ℕ, List, [], ◌∷◌, �
 use Rattle.std.proofs.lemmas.Slice.Eq.{bytes_eq-Decides}
 use Rattle.std.specs.{Prelude.{if◌then◌else◌}, List.{find}, Option.{option_map}, Str.{bytes_eq}}
 use Rattle.rio_leaf.specs.declared.branch.BranchDef.{BranchDef}
-use Rattle.rio_types.specs.declared.class.ClassDef.{ClassDef}
-use Rattle.rio_basket.specs.Cut.{Cut}
+use Rattle.rio_format.specs.declared.class.ClassDef.{ClassDef}
+use Rattle.rio_key.specs.Cut.{Cut}
 use Rattle.rio_machine.specs.State.{Tree}
 use Rattle.rio_state.specs.{TreeLengths.{cuts_of}, Trees.{RecordsAt}}
 use Rattle.rio_tree.specs.{WrittenLaws.{stated_defs}, declared.head.Branch.{Branch}, declared.head.TreeHead.{TreeHead}}

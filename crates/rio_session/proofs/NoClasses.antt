@@ -4,9 +4,8 @@ use Rattle.std.proofs.lemmas.{Bool.{and_parts}, Slice.Eq.{bytes_eq-Decides}}
 use Rattle.std.specs.{Prelude.{not, option_and_then}, Result.{result_ok}}
 use Rattle.rio_num.specs.{Layout.{Layout, behind}, Meanings.{Standing, read}, Reading.{some_if}, Room.{is_padding}}
 use Rattle.rio_num.proofs.ReadLaws.{bind_ok, ok_is}
-use Rattle.rio_value.specs.{CodeLaws.{coded_decides}, declared.value.Value.{Value, Opaque}}
-use Rattle.rio_value.specs.contracts.value.Value as values
-use Rattle.rio_buffer.specs.{Frames.{Step}, ReaderState.{WordsMet, no_words, standing}, declared.fault.ObjFault.{ObjFault}, declared.words.Header.{Header}}
+use Rattle.rio_format.specs.{CodeLaws.{coded_decides}, declared.value.Value.{Value, Opaque}, Frames.{Step}, ReaderState.{WordsMet, no_words, standing}, declared.fault.ObjFault.{ObjFault}, declared.words.Header.{Header}}
+use Rattle.rio_format.specs.contracts.value.Value as values
 use Rattle.rio_format.specs.{Bodies.{Body, body_of, opaque}, Growth.{is_all_read}, Objects.{body, depth_limit, first_at, formed, headed, object_of, unread}}
 use Rattle.rio_format.proofs.AllRead.{opaque_unread}
 use Rattle.rio_tree.specs.{Header.{tree_head_in}, WrittenLaws.{stated_defs}, WrittenTree.{tree_value_of}, declared.fault.TreeFault.{TreeFault}, declared.head.TreeHead.{TreeHead}}

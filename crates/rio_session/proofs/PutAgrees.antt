@@ -3,7 +3,7 @@ use Rattle.std.proofs.Common.{◌≡◌, ℕ, ◌+◌, ◌<◌, ◌^◌, List, [
 use Rattle.std.proofs.lemmas.Bool.{eq-eqb}
 use Rattle.rio_num.specs.Word.{is_item_text}
 use Rattle.rio_key.specs.{Written.{written_key}, declared.head.KeyHead.{KeyHead}}
-use Rattle.rio_value.specs.declared.value.Value.{Value}
+use Rattle.rio_format.specs.declared.value.Value.{Value}
 use Rattle.rio_dir.specs.Table.{with_head}
 use Rattle.rio_chain.specs.{Changes.{with_record}, Placing.{place_of, record_count, with_segment}, Segments.{Link, segment_of}, declared.key_words.KeyWords.{KeyWords}, declared.segment.Segment.{Segment}}
 use Rattle.rio_chain.proofs.Records.{key_long}

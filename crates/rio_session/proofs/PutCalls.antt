@@ -8,7 +8,7 @@ use Rattle.rio_step.specs.{Refusing.{is_list_name}, Statable.{IsStatable}}
 use Rattle.std.specs.{Prelude.{IsSome}, List.{find}, Option.{option_map}}
 use Rattle.rio_host.specs.Host.{IsLawful, View}
 use Rattle.rio_key.specs.declared.head.KeyHead.{KeyHead}
-use Rattle.rio_value.specs.declared.value.Value.{Value}
+use Rattle.rio_format.specs.{declared.value.Value.{Value}, declared.class.Base.{Base}}
 use Rattle.rio_dir.specs.Table.{head_of, with_head}
 use Rattle.rio_chain.specs.Placing.{file_end, place_of, record_count, with_segment}
 use Rattle.rio_machine.specs.{Limits.{head_length}, declared.command.Command.{Command, TheVariants.{Bad, Class, Put, Batch, Delete, Tree as MakeTree, Fill, Save, Get, Scan, Ls}}}
@@ -19,7 +19,6 @@ use Rattle.rio_step.specs.{Step.{object_put, refused}}
 use Rattle.rio_judge.proofs.KeysOfState.{first_is_found, found_key}
 use Rattle.rio_judge.specs.Trees.{IsTreeKeyOf, TreeWorkCanBeDone}
 use Rattle.rio_tree_table.specs.Table.{tree_of}
-use Rattle.rio_types.specs.declared.class.Base.{Base}
 use Rattle.rio_judge.specs.declared.work.{AnyWork.{AnyWork, TheVariants.{Item, Tree}}, TreeWork.{TreeWork, TheVariants.{Make as Making, Fill as Filling, Save as Saving, Delete as DeletingTree, Scan as ScanOf}}}
 use Rattle.rio_judge.specs.declared.work.{StoredObject.{StoredObject}, Work.{Work, TheVariants.{Class as Declaring, Put as Storing, Batch as StoringAll, Delete as Deleting, Get as Telling, Ls as Listing}}}
 use Rattle.rio_session.specs.{Causes.{NeverReads}, Doable.{AnyCanBeDone, CanBeDone, IsToDo, ReadsNothing}, Does.{Does}, Sound.{IsSoundState}}

@@ -3,7 +3,7 @@ use Rattle.std.proofs.Common.{◌≡◌, ◌==◌, ◌&&◌, inl, ℕ, ◌+◌, 
 use Rattle.std.proofs.lemmas.Bool.{eqb-true}
 use Rattle.rio_num.specs.Word.{is_item_text}
 use Rattle.rio_key.specs.declared.head.KeyHead.{KeyHead}
-use Rattle.rio_value.specs.declared.value.Value.{Value}
+use Rattle.rio_format.specs.declared.value.Value.{Value}
 use Rattle.rio_chain.specs.{Adjoining.{AreSegments}, Changes.{with_record}, Placing.{IsPlaceFor, place_of}, Segments.{Link, segment_of}}
 use Rattle.rio_model.specs.StateClasses.{StateClasses}
 use Rattle.rio_machine.specs.{State.{State}, declared.command.Command.TheVariants.{Put}}

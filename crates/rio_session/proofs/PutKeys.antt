@@ -3,7 +3,7 @@ use Rattle.std.proofs.Common.{◌≡◌, ◌∙◌, ℕ, true, false, List, [], 
 use Rattle.std.specs.{Prelude.{if◌then◌else◌, is_some}, List.{find}}
 use Rattle.rio_num.proofs.Cases.{none_from}
 use Rattle.rio_key.specs.declared.head.KeyHead.{KeyHead}
-use Rattle.rio_value.specs.declared.value.Value.{Value}
+use Rattle.rio_format.specs.declared.value.Value.{Value}
 use Rattle.rio_dir.specs.Table.{head_of, is_at_cycle, is_before, with_head}
 use Rattle.rio_model.specs.StateClasses.{StateClasses}
 use Rattle.rio_tree_table.specs.{Table.{tree_of}, declared.table.KeptTree.{KeptTree}}

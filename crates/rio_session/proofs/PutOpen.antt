@@ -4,8 +4,8 @@ use Rattle.std.proofs.lemmas.{Bool.{and_from, and_parts, eq-eqb, eqb-true}, Opti
 use Rattle.std.specs.{List.{All, AllByRecursion, list_all}, Option.{option_map}}
 use Rattle.rio_num.specs.{Room.{Room}, Text.{text_bytes}}
 use Rattle.rio_num.proofs.TextLengths.{short_text_bytes}
-use Rattle.rio_basket.specs.{Open.{OpenBasket, entries_length, have_one_length}, Record.{FitsBasketRecord, basket_key_length, basket_record}}
-use Rattle.rio_basket.proofs.WrittenBaskets.{are_basket_records, size}
+use Rattle.rio_key.specs.{OpenBasket.{OpenBasket, entries_length, have_one_length}, BasketRecord.{FitsBasketRecord, basket_key_length, basket_record}}
+use Rattle.rio_key.proofs.WrittenBaskets.{are_basket_records, size}
 use Rattle.rio_leaf.specs.{declared.branch.BranchDef.{BranchDef}, declared.branch.Shape.{Shape}}
 use Rattle.rio_tree.specs.{Header.{has_offsets}, declared.basket_at.BasketAt.{BasketAt}}
 use Rattle.rio_chain.specs.{Adjoining.{AreSegments}, Changes.{with_record}, Segments.{IsRecord}, declared.segment.Segment.{Segment}}

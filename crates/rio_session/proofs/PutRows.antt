@@ -5,7 +5,7 @@ use Rattle.std.specs.{Prelude.{if◌then◌else◌, nat_le, slice_get, unwrap_or
 use Rattle.rio_leaf.specs.declared.branch.BranchDef.{BranchDef}
 use Rattle.rio_chain.specs.Segments.{Link}
 use Rattle.rio_machine.specs.State.{State}
-use Rattle.rio_basket.specs.{Cut.{Cut, all_entries, basket_with, cut_more, cut_of, firsts_from}, Open.{entries_length, takes_entry}}
+use Rattle.rio_key.specs.{Cut.{Cut, all_entries, basket_with, cut_more, cut_of, firsts_from}, OpenBasket.{entries_length, takes_entry}}
 use Rattle.rio_tree.specs.{Header.{has_offsets}, WrittenLaws.{AreReadableBranches, stated_defs}, declared.basket_at.BasketAt.{BasketAt}, declared.head.Branch.{Branch}}
 use Rattle.rio_state.specs.{Contents.{file_classes}, KeyedRecords.{KeyedRecord, begins_at, info_key, keyed_records, top_keys, tree_records}, Reads.{AreRecordsOf}}
 use Rattle.rio_state.specs.{TreeLengths.{entries_by_branch}, Trees.{RecordsAt, all_places_named, are_named_once, places_named}}

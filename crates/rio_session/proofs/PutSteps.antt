@@ -4,7 +4,7 @@ use Rattle.std.proofs.lemmas.Bool.{eq-eqb, eqb-true}
 use Rattle.std.specs.{Prelude.{if◌then◌else◌, unwrap_or}, List.{list_all}}
 use Rattle.rio_num.specs.Word.{is_item_text}
 use Rattle.rio_key.specs.{declared.head.KeyHead.{KeyHead}, Written.{written_key}}
-use Rattle.rio_value.specs.declared.value.Value.{Value}
+use Rattle.rio_format.specs.declared.value.Value.{Value}
 use Rattle.rio_dir.specs.Table.{head_of, with_head}
 use Rattle.rio_chain.specs.{Placing.{file_end, place_of, record_count}, declared.record.NewRecord.{NewRecord}}
 use Rattle.rio_chain.proofs.Records.{key_long}

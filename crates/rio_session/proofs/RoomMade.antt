@@ -2,7 +2,7 @@
 use Rattle.std.proofs.Common.{◌≡◌, ℕ, suc, ◌+◌, ◌-◌, ◌==◌, ◌&&◌, ◌||◌, ◌≤◌, max, List, [], ◌∷◌, ◌++◌, length, map, nat_le, nat_lt, Bool, true, false, not, Option, Some, None, refl, sym, ap, ◌∙◌, arith}
 use Rattle.std.proofs.lemmas.Bool.{and_from, and_parts, lt-ltb}
 use Rattle.std.specs.List.{list_all}
-use Rattle.rio_basket.specs.Open.{entries_length}
+use Rattle.rio_key.specs.OpenBasket.{entries_length}
 use Rattle.rio_chain.specs.{Changes.{with_record}, Placing.{place_of, with_segment}, declared.segment.Segment.{Segment}}
 use Rattle.rio_tree.specs.declared.basket_at.BasketAt.{BasketAt}
 use Rattle.rio_effect.specs.TreeRecords.{basket_at, length_of_basket, record_of_basket}

@@ -3,7 +3,7 @@ use Rattle.std.proofs.Common.{zero, suc, ◌≡◌, ◌≢◌, ◌∙◌, ℕ, �
 use Rattle.std.proofs.lemmas.{Bool.{and_parts, ltb-false, or_parts}, Option.{same_Some}, List.{length-map, Elements.{All-from_recursion}}}
 use Rattle.std.specs.{Prelude.{if◌then◌else◌, option_and_then, slice_get}, FinMap.{get}, List.{AllByRecursion, find, list_any}, Option.{option_map}}
 use Rattle.rio_num.specs.{Answers.{GivesUnless}, Word.{is_item_text}}
-use Rattle.rio_types.specs.declared.class.ClassDef.{ClassDef}
+use Rattle.rio_format.specs.declared.class.ClassDef.{ClassDef}
 use Rattle.rio_leaf.specs.declared.branch.BranchDef.{BranchDef}
 use Rattle.rio_key.specs.declared.head.KeyHead.{KeyHead}
 use Rattle.rio_tree_table.specs.{declared.table.KeptTree.{KeptTree}}

@@ -3,7 +3,7 @@ use Rattle.std.proofs.Common.{◌≡◌, inl, inr, ℕ, List, [], ◌∷◌, map
 use Rattle.std.specs.{List.{find, flat_map}, Str.{bytes_eq}}
 use Rattle.rio_chain.specs.Segments.{Link}
 use Rattle.rio_machine.specs.State.{State, Tree}
-use Rattle.rio_basket.specs.Cut.{Cut}
+use Rattle.rio_key.specs.Cut.{Cut}
 use Rattle.rio_tree.specs.{declared.basket_at.BasketAt.{BasketAt}, declared.head.Branch.{Branch}, declared.head.TreeHead.{TreeHead}}
 use Rattle.rio_state.specs.{Contents.{file_classes}, KeyedRecords.{KeyedRecord, info_key, keyed_records, record_at, top_keys, tree_records}}
 use Rattle.rio_state.specs.Trees.{RecordsAt, all_places_named, are_named_once, header_in}

@@ -9,7 +9,7 @@ use Rattle.rio_machine.specs.{State.{State}, declared.command.Command.{Command, 
 use Rattle.rio_machine.specs.{declared.command.Outcome.{Outcome, TheVariants.{Accepted, Refused}}, declared.refusal.Refusal.TheVariants.{Full}}
 use Rattle.rio_tree.specs.HeaderLength.{header_size}
 use Rattle.rio_tree_table.specs.declared.table.KeptTree.{KeptTree}
-use Rattle.rio_types.specs.declared.class.ClassDef.{ClassDef}
+use Rattle.rio_format.specs.declared.class.ClassDef.{ClassDef}
 use Rattle.rio_fill.specs.Fill.{defs_of}
 use Rattle.rio_judge.proofs.KeysOfState.{first_is_found, found_key}
 use Rattle.rio_judge.specs.{Trees.{IsJudgementOfItems, TreeWorkCanBeDone}, declared.work.JudgedWithTrees.TheVariants.{Accepted as Judgement}}

@@ -3,9 +3,7 @@ use Rattle.std.proofs.Common.{◌≡◌, inl, inr, ℕ, ℤ, ◌+◌, ◌<◌, �
 use Rattle.std.proofs.lemmas.{Bool.{and_from, and_parts, lt-ltb, ltb-false, ltb-true, or_parts}, List.{Elements.{recursion_from_All}, Sums.{sum_by-cons}}}
 use Rattle.std.specs.List.{All, find, list_all}
 use Rattle.rio_leaf.specs.{Stated.{are_stated_branches}, declared.branch.BranchDef.{BranchDef}}
-use Rattle.rio_types.specs.declared.class.ClassDef.{ClassDef}
-use Rattle.rio_value.specs.Integers.{fits_signed}
-use Rattle.rio_format.specs.{Growth.{PicksStay}, TreeClasses.{tree_classes}}
+use Rattle.rio_format.specs.{declared.class.ClassDef.{ClassDef}, Integers.{fits_signed}, Growth.{PicksStay}, TreeClasses.{tree_classes}}
 use Rattle.rio_key.specs.declared.head.KeyHead.{KeyHead}
 use Rattle.rio_dir.specs.Table.{head_of}
 use Rattle.rio_chain.specs.{Adjoining.{AreSegments}, Placing.{file_end}, Segments.{segment_of}, declared.segment.Segment.{Segment}}

@@ -4,7 +4,7 @@ use Rattle.std.proofs.{Math.Seq.{take-append-add}, lemmas.{List.{length-append, 
 use Rattle.std.specs.{Cmp.{eq_by_cmp_equiv}, FinMap.{get, get-insert, insert}, List.{find, list_any, Sorted.{IsPermutation}}, Option.{option_map_or}, Str.{bytes_eq}}
 use Rattle.rio_num.proofs.BytesEq.{bytes_eq-sym}
 use Rattle.rio_leaf.specs.declared.branch.BranchDef.{BranchDef}
-use Rattle.rio_types.specs.declared.class.ClassDef.{ClassDef}
+use Rattle.rio_format.specs.declared.class.ClassDef.{ClassDef}
 use Rattle.rio_key.specs.declared.head.KeyHead.{KeyHead}
 use Rattle.rio_dir.specs.Table.{head_of, with_head, without_head}
 use Rattle.rio_chain.specs.{Adjoining.{AreSegments}, Changes.{with_record, without_record}, Placing.{place_of, record_count, with_segment}, Releasing.{without_segment}, Segments.{IsChain, IsRecord, Link}, declared.segment.Segment.{Segment}}

@@ -5,13 +5,12 @@ use Rattle.std.specs.{Cmp.{eq_by_cmp_equiv}, FinMap.{get, get-insert, insert}, L
 use Rattle.rio_num.specs.Word.{name_order}
 use Rattle.rio_num.proofs.BytesEq.{bytes_eq-sym}
 use Rattle.rio_leaf.specs.declared.branch.BranchDef.{BranchDef}
-use Rattle.rio_types.specs.declared.class.ClassDef.{ClassDef}
-use Rattle.rio_key.specs.declared.head.KeyHead.{KeyHead}
+use Rattle.rio_format.specs.declared.class.ClassDef.{ClassDef}
+use Rattle.rio_key.specs.{declared.head.KeyHead.{KeyHead}, Cut.{Cut}}
 use Rattle.rio_dir.specs.Table.{head_of}
 use Rattle.rio_chain.specs.Segments.{IsChain, Link, segment_of}
 use Rattle.rio_machine.proofs.OrderLaws.{names_tie, names_total}
 use Rattle.rio_machine.specs.State.{State, Tree}
-use Rattle.rio_basket.specs.Cut.{Cut}
 use Rattle.rio_tree.specs.{WrittenLaws.{AreReadableBranches, stated_defs}, declared.basket_at.BasketAt.{BasketAt}, declared.head.Branch.{Branch}, declared.head.TreeHead.{TreeHead}}
 use Rattle.rio_fill.specs.Fill.{TreeFill, all_saved, entry_count}
 use Rattle.rio_state.specs.{Contents.{file_classes}, KeyedRecords.{KeyedRecord, info_key, keyed_records, record_at, top_keys, tree_records}, OneMore.{keyed_bytes}}

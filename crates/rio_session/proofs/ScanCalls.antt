@@ -13,7 +13,7 @@ use Rattle.rio_reply.specs.Scanned.{scan_start}
 use Rattle.rio_recover.specs.Closable.{begins_at}
 use Rattle.rio_state.proofs.{Members.{In, all_at, in_map}, TreesSame.{in_flat_map}}
 use Rattle.rio_tree.specs.{SavedEntries.{entries_at}, declared.basket_at.BasketAt.{BasketAt}}
-use Rattle.rio_types.specs.declared.{class.Base.{Base}, class.ClassDef.{ClassDef}}
+use Rattle.rio_format.specs.{declared.class.Base.{Base}, declared.class.ClassDef.{ClassDef}}
 use Rattle.rio_session.specs.{Causes.{IsSaid}, Fills.{FilledTree, bare, bare_tree, is_tree_of, places_of_fill, places_of_trees}, HeldBaskets.{IsTreeStored}, Gets.{PrintsTold}, Replying.{Replies, printed_of}, Says.{SaysReply}, ScanReplies.{TellsRows}, Scans.{AllPairs, AreEntriesOf, AreRowsOf, Scans, lines_behind}}
 use Rattle.rio_session.specs.{SessionState.{SessionState}, declared.fault.SessionFault.{SessionFault, TheVariants.{HostFault, SayFault, NoMemory}}}
 use Rattle.rio_session.proofs.{Bare.{all_places, bare_found, defs_bare}, FilledTrees.{found_among, found_name}, OtherSteps.{begins_record}, OnlyReplies.{reads_then_says}}

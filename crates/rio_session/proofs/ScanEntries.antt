@@ -5,7 +5,7 @@ use Rattle.std.proofs.lemmas.List.{append-nil, length-append}
 use Rattle.std.proofs.lemmas.Option.{same_Some, slice_get_within}
 use Rattle.std.specs.{Prelude.{if◌then◌else◌, option_and_then, nat_lt}, List.{Contains, find}}
 use Rattle.rio_num.specs.Reading.{some_if}
-use Rattle.rio_basket.specs.{Cut.{all_entries, firsts_from}, Entries.{entries_in}}
+use Rattle.rio_key.specs.{Cut.{all_entries, firsts_from}, BasketEntries.{entries_in}}
 use Rattle.rio_chain.specs.{Chains.{HasChain}, Segments.{HoldsLinks, Link, RecordAt}}
 use Rattle.rio_effect.specs.SavedRows.{HoldAllEntries, HoldsEntries}
 use Rattle.rio_effect.proofs.KeyReads.{placed}
@@ -16,7 +16,7 @@ use Rattle.rio_machine.specs.State.{Row}
 use Rattle.rio_state.specs.{KeyedRecords.{KeyedRecord, keyed_records, record_at}, Trees.{RecordsAt, basket_bytes, bytes_as_said}}
 use Rattle.rio_state.proofs.Members.{Found, In, contains_in, found}
 use Rattle.rio_tree.specs.{Header.{has_offsets}, Index.{basket_number}, SavedEntries.{entries_at}, declared.basket_at.BasketAt.{BasketAt}}
-use Rattle.rio_types.specs.declared.class.ClassDef.{ClassDef}
+use Rattle.rio_format.specs.declared.class.ClassDef.{ClassDef}
 use Rattle.rio_session.specs.{HeldBaskets.{HoldEntry, HoldsEntry, IsHeld, IsReadAs}, Scans.{AllPairs, AreEntriesOf, AreRowsOf, entries_of_row, entry_held, entry_of_branch, entry_or, if_short, open_entry, row_held, stored_entry}}
 
 -- ---- entries of lists

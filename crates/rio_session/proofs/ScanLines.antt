@@ -10,7 +10,7 @@ use Rattle.rio_model.specs.{Mapping.{Mapped}, declared.map_fault.MapFault.{MapFa
 use Rattle.rio_reply.specs.Scanned.{row_line, scan_start}
 use Rattle.rio_reply.proofs.Scans.{scans_are_lines}
 use Rattle.rio_step.specs.{Refusing.{row_seen_in, rows_seen_in}, ReplyText.{row_lines, text_of}, Step.{rows_told}}
-use Rattle.rio_types.specs.declared.{class.Base.{Base}, class.ClassDef.{ClassDef}}
+use Rattle.rio_format.specs.{declared.class.Base.{Base}, declared.class.ClassDef.{ClassDef}}
 use Rattle.rio_session.specs.Scans.{AreRowsOf, FoundRow, Scans, line_behind, lines_behind, rows_printed}
 
 -- ---- one row more

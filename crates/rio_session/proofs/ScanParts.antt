@@ -5,7 +5,7 @@ use Rattle.std.specs.Option.{option_map}
 use Rattle.rio_num.specs.Reading.{◌>>=◌}
 use Rattle.rio_leaf.specs.declared.branch.BranchDef.{BranchDef}
 use Rattle.rio_entry.specs.{Counting.{counters_within}, declared.lane.Lane.{Lane}, declared.lane.RowFault.{RowFault}}
-use Rattle.rio_basket.specs.Open.{OpenBasket}
+use Rattle.rio_key.specs.OpenBasket.{OpenBasket}
 use Rattle.rio_fill.specs.Fill.{BranchFill, TreeFill, basket_of, count_before, entry_count}
 use Rattle.rio_tree.specs.declared.basket_at.BasketAt.{BasketAt}
 use Rattle.rio_session.specs.Scans.{entries_of_row, entry_of_branch, entry_within}

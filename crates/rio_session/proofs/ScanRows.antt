@@ -4,8 +4,8 @@ use Rattle.std.proofs.lemmas.{Bool.{and_parts, eqb-true, ltb-false, ltb-true}, L
 use Rattle.std.specs.{Prelude.{if◌then◌else◌, nat_lt, option_and_then}, FinMap.{get}, List.{All, AllByRecursion, find, list_all, range_with_len}, Option.{option_map, option_map_or}, Result.{result_ok}}
 use Rattle.rio_num.specs.Reading.{some_if}
 use Rattle.rio_leaf.specs.declared.branch.BranchDef.{BranchDef}
-use Rattle.rio_types.specs.declared.class.ClassDef.{ClassDef}
-use Rattle.rio_basket.specs.Cut.{Cut, cut_of}
+use Rattle.rio_format.specs.declared.class.ClassDef.{ClassDef}
+use Rattle.rio_key.specs.Cut.{Cut, cut_of}
 use Rattle.rio_chain.specs.{Chains.{HasChain}, Segments.{Link}}
 use Rattle.rio_machine.specs.{RowEntries.{fitting_row, row_in}, Rows.{entries_of, row_fits}, State.{Row, State, Tree}}
 use Rattle.rio_machine.specs.declared.entry_fault.EntryFault.{EntryFault}

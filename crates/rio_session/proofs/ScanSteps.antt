@@ -2,8 +2,7 @@
 use Rattle.std.proofs.Common.{◌≡◌, ℕ, ℤ, List, [], ◌∷◌, length, Option, Some, None, Ok, Err, Bool, true, false, not, refl, sym, ap, subst, ◌∙◌}
 use Rattle.std.specs.{Prelude.{option_and_then}, FinMap.{get}, Option.{option_map_or}}
 use Rattle.rio_num.specs.Reading.{◌>>=◌}
-use Rattle.rio_types.specs.declared.{class.Base.{Base}, class.ClassDef.{ClassDef}}
-use Rattle.rio_value.specs.declared.value.Value.{Value}
+use Rattle.rio_format.specs.{declared.class.Base.{Base}, declared.class.ClassDef.{ClassDef}, declared.value.Value.{Value}}
 use Rattle.rio_machine.specs.{State.{Row, State, Tree}, declared.command.Command.{TheVariants.{Scan}}, declared.command.Outcome.{Outcome, TheVariants.{Accepted, Refused}}}
 use Rattle.rio_machine.specs.declared.refusal.Refusal.{Refusal, TheVariants.{KindChanged}}
 use Rattle.rio_model.specs.{Mapping.{Mapped, as_version}, Resolving.{is_known_version}, declared.map_fault.MapFault.TheVariants.{KindChanged as Changed, NoVersion as Missing, NoMemory}}

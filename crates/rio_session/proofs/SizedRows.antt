@@ -4,9 +4,9 @@ use Rattle.std.proofs.lemmas.Bool.{and_from, and_parts, eq-eqb, eqb-true, leb-tr
 use Rattle.std.specs.{Prelude.{if◌then◌else◌, nat_le, nat_lt, slice_get, unwrap_or}, List.{list_all, list_any}}
 use Rattle.rio_leaf.specs.declared.branch.BranchDef.{BranchDef}
 use Rattle.rio_leaf.specs.declared.branch.Shape.{Shape}
-use Rattle.rio_types.specs.declared.class.ClassDef.{ClassDef}
-use Rattle.rio_basket.specs.{Cut.{Cut, all_entries, cut_of}, Open.{have_one_length, takes_entry}}
-use Rattle.rio_basket.proofs.CutAll.{all_of_cut}
+use Rattle.rio_format.specs.declared.class.ClassDef.{ClassDef}
+use Rattle.rio_key.specs.{Cut.{Cut, all_entries, cut_of}, OpenBasket.{have_one_length, takes_entry}}
+use Rattle.rio_key.proofs.CutAll.{all_of_cut}
 use Rattle.rio_tree.specs.Header.{has_offsets}
 use Rattle.rio_machine.specs.{Limits.{has_long_entry, is_too_long}, Rows.{entries_of, row_fits}, State.{Row, Tree}}
 use Rattle.rio_state.specs.TreeLengths.{cuts_of, entries_by_branch}

@@ -4,8 +4,7 @@ use Rattle.std.proofs.lemmas.List.{length-append, length-replicate}
 use Rattle.std.specs.{Prelude.{unwrap_or}, Option.{option_map_or}}
 use Rattle.rio_num.specs.{Room.{padding}, Word.{is_item_text}}
 use Rattle.rio_num.proofs.TextLengths.{short_text_bytes}
-use Rattle.rio_types.specs.declared.class.ClassDef.{ClassDef}
-use Rattle.rio_format.specs.{Slots.{can_be_put}, Written.{written_form}, WrittenBytes.{length_limit}}
+use Rattle.rio_format.specs.{declared.class.ClassDef.{ClassDef}, Slots.{can_be_put}, Written.{written_form}, WrittenBytes.{length_limit}}
 use Rattle.rio_key.specs.Written.{written_key}
 use Rattle.rio_chain.specs.Segments.{IsRecord}
 use Rattle.rio_model.specs.StateClasses.{StateClasses}

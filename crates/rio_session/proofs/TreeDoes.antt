@@ -1,7 +1,7 @@
 -- What a tree command does, in all clauses.
 use Rattle.std.proofs.Common.{◌≡◌, ◌∙◌, ℕ, ◌+◌, ◌-◌, ◌*◌, ◌<◌, ◌^◌, min, sum, List, length, true, false, Option, None, Some, Result, Ok, Err, IfOk, refl, sym, ap, subst, arith}
 use Rattle.rio_host.specs.Host.{IsLawful, View}
-use Rattle.rio_types.specs.declared.class.ClassDef.{ClassDef}
+use Rattle.rio_format.specs.declared.class.ClassDef.{ClassDef}
 use Rattle.rio_key.specs.declared.head.KeyHead.{KeyHead}
 use Rattle.rio_chain.specs.{Adjoining.{AreSegments}, Placing.{file_end, record_count}}
 use Rattle.rio_machine.specs.{State.{State, empty_state}, declared.command.Command.{Command, TheVariants.{Bad, Class, Put, Batch, Delete, Tree as MakeTree, Fill, Save, Get, Scan, Ls}}}

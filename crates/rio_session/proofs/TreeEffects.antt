@@ -4,7 +4,7 @@ use Rattle.std.proofs.Common.{◌≡◌, inl, inr, ℕ, zero, suc, ◌+◌, ◌<
 use Rattle.std.proofs.{Math.Seq.{take-append_seam}, lemmas.{Bool.{and_parts, cases_lt, eqb-true, or_parts}, List.{Elements.{All-cons, All-head, All-nil, All-tail}, length-append, Sorted.{IsPermutation-trans}, Sums.{fold-append, sum_by-cons}, take_all}, Option.{same_Some}, Slice.Eq.{bytes_eq-Decides}}}
 use Rattle.std.specs.{Prelude.{◌||◌, if◌then◌else◌, is_some}, Cmp.{eq_by_cmp_equiv}, FinMap.{get, get-insert, insert}, List.{All, find, flat_map, list_all, list_any}, Option.{option_map, option_map_or}, Str.{bytes_eq}}
 use Rattle.rio_num.specs.Word.{is_item_text}
-use Rattle.rio_types.specs.declared.class.ClassDef.{ClassDef}
+use Rattle.rio_format.specs.declared.class.ClassDef.{ClassDef}
 use Rattle.rio_leaf.specs.{Stated.{are_stated_branches}, declared.branch.BranchDef.{BranchDef}}
 use Rattle.rio_key.specs.declared.head.KeyHead.{KeyHead}
 use Rattle.rio_dir.specs.Table.{with_head}

@@ -1,8 +1,7 @@
 -- The class list is put in front of a tree's header where a file has none.
 use Rattle.std.proofs.Common.{◌≡◌, inl, ℕ, zero, suc, ◌+◌, ◌%◌, ◌<◌, ◌≤◌, ◌^◌, ◌∙◌, List, [], ◌∷◌, length, map, take, false, Option, Some, None, refl, sym, ap, subst, arith}
-use Rattle.rio_types.specs.declared.class.ClassDef.{ClassDef}
+use Rattle.rio_format.specs.{declared.class.ClassDef.{ClassDef}, Growth.{PicksStay}, TreeClasses.{tree_classes}}
 use Rattle.rio_key.specs.declared.head.KeyHead.{KeyHead}
-use Rattle.rio_format.specs.{Growth.{PicksStay}, TreeClasses.{tree_classes}}
 use Rattle.rio_chain.specs.{Adjoining.{AreSegments}, Changes.{with_record}, Placing.{IsPlaceFor, file_end, place_of, record_count, with_segment}, Segments.{IsChain, IsRecord, Link, segment_of}, declared.segment.Segment.{Segment}}
 use Rattle.rio_model.specs.StateClasses.{HasShortList}
 use Rattle.rio_machine.specs.State.{State}

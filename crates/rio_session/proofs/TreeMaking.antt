@@ -6,11 +6,10 @@ use Rattle.rio_free.specs.Gaps.{best_place}
 use Rattle.rio_leaf.specs.declared.branch.BranchDef.{BranchDef}
 use Rattle.rio_key.specs.declared.head.KeyHead.{KeyHead}
 use Rattle.rio_num.specs.Room.{Room}
-use Rattle.rio_types.specs.declared.class.ClassDef.{ClassDef}
+use Rattle.rio_format.specs.{declared.class.ClassDef.{ClassDef}, Descriptions.{description_classes}, TreeClasses.{written_classes}, WrittenBytes.{length_limit, written_list}, WrittenList.{class_list_value}}
 use Rattle.rio_chain.specs.{Adjoining.{AreSegments}, Changes.{with_record}, Placing.{FreeSpace, end_after, file_end, laid, place_of, places_of, space_of, with_segment}, Segments.{IsRecord}, declared.record.NewRecord.{NewRecord}, declared.segment.Segment.{Segment}}
 use Rattle.rio_chain.proofs.{Laying.{end_grows, laid_put}, Words.{whole_long}}
 use Rattle.rio_close.proofs.Fitting.{padded_aligned, place_low}
-use Rattle.rio_format.specs.{Descriptions.{description_classes}, TreeClasses.{written_classes}, WrittenBytes.{length_limit, written_list}, WrittenList.{class_list_value}}
 use Rattle.rio_tree.proofs.WrittenLengths.{written_length}
 use Rattle.rio_tree.specs.declared.head.TreeHead.{TreeHead}
 use Rattle.rio_tree_table.specs.declared.table.KeptTree.{KeptTree}

@@ -5,7 +5,7 @@ use Rattle.std.specs.{Prelude.{IfSome, ◌&&◌, nat_lt}, List.{AllByRecursion, 
 use Rattle.rio_num.specs.Text.{text_bytes}
 use Rattle.rio_num.proofs.TextLengths.{short_text_bytes}
 use Rattle.rio_leaf.specs.{Stated.{are_stated_branches}, declared.branch.BranchDef.{BranchDef}}
-use Rattle.rio_types.specs.declared.class.ClassDef.{ClassDef}
+use Rattle.rio_format.specs.declared.class.ClassDef.{ClassDef}
 use Rattle.rio_key.specs.{declared.head.KeyHead.{KeyHead}}
 use Rattle.rio_model.specs.{Declaring.{shape_lacks_class}, StateClasses.{StateClasses}}
 use Rattle.rio_machine.specs.Limits.{branch_limit, has_many_branches, has_many_leaves, head_length}

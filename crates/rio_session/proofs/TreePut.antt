@@ -4,7 +4,7 @@ use Rattle.std.specs.{Prelude.{if◌then◌else◌}, List.{find}, Option.{option
 use Rattle.rio_num.specs.Text.{text_bytes}
 use Rattle.rio_num.proofs.TextLengths.{short_text_bytes}
 use Rattle.rio_leaf.specs.declared.branch.BranchDef.{BranchDef}
-use Rattle.rio_types.specs.declared.class.ClassDef.{ClassDef}
+use Rattle.rio_format.specs.declared.class.ClassDef.{ClassDef}
 use Rattle.rio_key.specs.{Written.{written_key}, declared.head.KeyHead.{KeyHead}}
 use Rattle.rio_dir.specs.Table.{head_of, heads_size, is_at_cycle, is_of_name, with_head}
 use Rattle.rio_chain.specs.{Adjoining.{AreSegments}, Placing.{file_end}, declared.segment.Segment.{Segment}}

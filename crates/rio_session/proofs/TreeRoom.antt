@@ -4,7 +4,7 @@ use Rattle.std.proofs.lemmas.{Bool.{eqb-true}, List.{length-append}}
 use Rattle.std.specs.List.{list_all, sum_by}
 use Rattle.std.proofs.lemmas.List.Sums.{sum_by-cons}
 use Rattle.rio_leaf.specs.declared.branch.BranchDef.{BranchDef}
-use Rattle.rio_types.specs.declared.class.ClassDef.{ClassDef}
+use Rattle.rio_format.specs.declared.class.ClassDef.{ClassDef}
 use Rattle.rio_key.specs.{Written.{written_key}, declared.head.KeyHead.{KeyHead}}
 use Rattle.rio_dir.specs.Table.{heads_size, with_head}
 use Rattle.rio_chain.specs.Placing.{place_of, record_count}

@@ -2,9 +2,8 @@
 use Rattle.std.proofs.Common.{◌≡◌, ◌∙◌, ℕ, List, [], ◌∷◌, map, Option, Some, None, refl, sym, ap, subst}
 use Rattle.std.proofs.lemmas.Option.{same_Some}
 use Rattle.std.specs.{FinMap.{get}, List.{All, find, flat_map}, Option.{option_map, option_map_or}}
-use Rattle.rio_basket.specs.Cut.{Cut, cut_of}
+use Rattle.rio_key.specs.{Cut.{Cut, cut_of}, declared.head.KeyHead.{KeyHead}}
 use Rattle.rio_chain.specs.Segments.{Link}
-use Rattle.rio_key.specs.declared.head.KeyHead.{KeyHead}
 use Rattle.rio_machine.specs.State.{State, Tree}
 use Rattle.rio_tree.specs.{WrittenLaws.{stated_defs}, declared.basket_at.BasketAt.{BasketAt}, declared.head.Branch.{Branch}}
 use Rattle.rio_state.specs.{DirectoryKeys.{AreKeysOf}, KeyedRecords.{keyed_records, record_at}, Reads.{AreRecordsOf}, TreeLengths.{cuts_of, entries_by_branch, none_pending, pending_in}, Trees.{RecordsAt, all_places_named, are_named_once}}

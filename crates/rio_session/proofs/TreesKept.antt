@@ -1,8 +1,7 @@
 -- The trees of a file are the same with one class more.
 use Rattle.std.proofs.Common.{◌≡◌, ◌∙◌, inl, inr, List, [], ◌∷◌, ◌++◌, Some, refl, sym, ap, subst}
 use Rattle.std.specs.{List.{cons_option}, Option.{option_map}, Prelude.{is_some}}
-use Rattle.rio_types.specs.declared.class.ClassDef.{ClassDef}
-use Rattle.rio_format.specs.Growth.{PicksStay}
+use Rattle.rio_format.specs.{declared.class.ClassDef.{ClassDef}, Growth.{PicksStay}}
 use Rattle.rio_machine.specs.State.{State}
 use Rattle.rio_tree.specs.declared.head.TreeHead.{TreeHead}
 use Rattle.rio_state.specs.{Contents.{HasStateClasses, IsStateList, file_classes, state_classes}, KeyedRecords.{KeyedRecord, info_key, top_keys, tree_records}, Reads.{AreRecordsOf}, Trees.{all_places_named, header_in, tree_of, trees_beside}}

@@ -4,7 +4,7 @@ use Rattle.std.proofs.lemmas.{Bool.{and_from, and_parts, cases_lt, eq-eqb, lt-lt
 use Rattle.std.specs.{Prelude.{is_some, option_and_then}, FinMap.{get, same_map}, List.{find, range_with_len}, Option.{option_map}, Str.{bytes_eq}}
 use Rattle.rio_machine.proofs.OrderLaws.{names_tie, names_total}
 use Rattle.rio_machine.specs.{RowEntries.{fitting_row}, State.{Row, State, Tree}}
-use Rattle.rio_types.specs.declared.class.ClassDef.{ClassDef}
+use Rattle.rio_format.specs.declared.class.ClassDef.{ClassDef}
 use Rattle.rio_tree.specs.{SavedEntries.{all_there, branch_entries, entries_at, rows_by, rows_of}, WrittenLaws.{stated_defs}, declared.head.TreeHead.{TreeHead}}
 use Rattle.rio_state.specs.{KeyedRecords.{KeyedRecord, has_item, info_key, is_outdated, is_tree_key, is_tree_record, item_of_key, record_at, top_keys, tree_records}, Reads.{AreRecordsOf}}
 use Rattle.rio_state.specs.Trees.{RecordsAt, TreesBeside, basket_bytes, header_in, saved_rows, saved_tree, tree_of, trees_beside}

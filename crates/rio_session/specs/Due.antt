@@ -2,10 +2,9 @@
 -- that were cut off.
 use Rattle.std.specs.Prelude.{◌≡◌, ◌≤◌, ◌<◌, ◌^◌, ℕ, ◌+◌, List, [], ◌∷◌, ◌++◌, codes, length, map, Bool, true, false, Option, Some, None, ◌==◌, not, nat_lt}
 use Rattle.std.specs.List.{All, flat_map, list_all, list_any, sum_by}
-use Rattle.rio_key.specs.declared.head.KeyHead.{KeyHead}
+use Rattle.rio_key.specs.{declared.head.KeyHead.{KeyHead}, Cut.{basket_with}}
 use Rattle.rio_chain.specs.{Placing.{file_end, record_count}, declared.segment.Segment.{Segment}}
 use Rattle.rio_machine.specs.Limits.{head_length}
-use Rattle.rio_basket.specs.Cut.{basket_with}
 use Rattle.rio_tree.specs.{HeaderLength.{header_length}, Refusals.{are_in_order}, declared.basket_at.BasketAt.{BasketAt}}
 use Rattle.rio_state.specs.{Closing.{KeptRecords, close_need, end_limit, padded_length}, TreeLengths.{BasketLengths, TreeLengths, basket_lengths, save_lengths}}
 use Rattle.rio_fill.specs.Fill.{BranchFill, TreeFill, count_before, defs_of}

@@ -2,8 +2,7 @@
 use Rattle.std.specs.Prelude.{◌≡◌, ℕ, ℤ, List, drop, Contains, Option, Some, None, Result, Ok, Err, IfOk}
 use Rattle.rio_host.specs.Host.{View}
 use Rattle.rio_key.specs.declared.head.KeyHead.{KeyHead}
-use Rattle.rio_format.specs.Objects.{value_at}
-use Rattle.rio_types.specs.declared.class.ClassDef.{ClassDef}
+use Rattle.rio_format.specs.{Objects.{value_at}, declared.class.ClassDef.{ClassDef}}
 use Rattle.rio_model.specs.{Mapping.{Mapped}, declared.map_fault.MapFault.TheVariants.{KindChanged as Changed, NoVersion as Missing, NoMemory}}
 use Rattle.rio_machine.specs.{declared.command.Outcome.{Outcome, TheVariants.{Accepted, Refused}}, declared.refusal.Refusal.TheVariants.{KindChanged, NoVersion}}
 use Rattle.rio_chain.specs.{Chains.{HasChain}, Segments.{Link, RecordAt}, Walks.{Told}, declared.segment.Segment.{Segment}}

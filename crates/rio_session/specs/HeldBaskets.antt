@@ -1,6 +1,6 @@
 -- What is held of the branches of a tree while its rows are read, by the records of the file.
 use Rattle.std.specs.Prelude.{◌≡◌, ◌≤◌, ◌<◌, ℕ, Bool, Contains, List, slice_get, Some, None, Option, IsTrue, is_some}
-use Rattle.rio_basket.specs.Entries.{entries_in}
+use Rattle.rio_key.specs.BasketEntries.{entries_in}
 use Rattle.rio_chain.specs.{Chains.{HasRecordSegment}, Segments.{Link, RecordAt}, declared.segment.Segment.{Segment}}
 use Rattle.rio_entry.specs.{StoredEntries.{StoredEntries}, declared.lane.Lane.{Lane}}
 use Rattle.rio_fill.specs.Fill.{BranchFill, TreeFill, count_before, entry_count}

@@ -1,8 +1,7 @@
 -- What a command changes: of the records of the file, and of what a session keeps beside it.
 use Rattle.std.specs.{Prelude.{ℕ, List, [], ◌∷◌, ◌++◌, ◌==◌, length, map, Option, Some, None, if◌then◌else◌}, List.{filter, find, fold, list_any}, Option.{option_map_or}}
 use Rattle.rio_key.specs.declared.head.KeyHead.{KeyHead}
-use Rattle.rio_types.specs.declared.class.ClassDef.{ClassDef}
-use Rattle.rio_value.specs.declared.value.Value.{Value}
+use Rattle.rio_format.specs.{declared.class.ClassDef.{ClassDef}, declared.value.Value.{Value}}
 use Rattle.rio_dir.specs.Table.{head_of, with_head, with_heads, without_head}
 use Rattle.rio_chain.specs.{Changes.{with_record, with_records, without_record}, Placing.{place_of, with_segment, with_segments}, Releasing.{without_segment}, Segments.{Link}}
 use Rattle.rio_chain.specs.declared.segment.Segment.{Segment, TheVariants.{Record, Gap}}

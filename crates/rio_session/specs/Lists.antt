@@ -1,7 +1,6 @@
 -- What it is to declare a class, and to write the list of all classes in place of the one before.
 use Rattle.std.specs.Prelude.{◌≡◌, ◌≤◌, ◌<◌, ℕ, ◌+◌, ◌^◌, List, [], ◌∷◌, ◌++◌, length, Some, None}
-use Rattle.rio_types.specs.declared.class.ClassDef.{ClassDef}
-use Rattle.rio_format.specs.WrittenBytes.{length_limit, written_list}
+use Rattle.rio_format.specs.{declared.class.ClassDef.{ClassDef}, WrittenBytes.{length_limit, written_list}}
 use Rattle.rio_model.specs.{Declaring.{declare_fault, declared}, StateClasses.{StateClasses}}
 use Rattle.rio_chain.specs.{Changes.{with_record}, Placing.{file_end, place_of, with_segment}, Segments.{IsRecord}, declared.record.NewRecord.{NewRecord}}
 use Rattle.rio_judge.specs.declared.work.NewClass.{NewClass}

@@ -1,7 +1,7 @@
 -- Which commands find no room.
 use Rattle.std.specs.{Prelude.{ℕ, ◌+◌, List, [], ◌∷◌, ◌++◌, codes, length, map, sum, Bool, Option, Some, None, is_some, if◌then◌else◌}, FinMap.{entries}, List.{sum_by}}
 use Rattle.rio_key.specs.declared.head.KeyHead.{KeyHead}
-use Rattle.rio_value.specs.declared.value.Value.{Value}
+use Rattle.rio_format.specs.declared.value.Value.{Value}
 use Rattle.rio_chain.specs.{Placing.{file_end}, Record.{new_key}}
 use Rattle.rio_machine.specs.{Limits.{head_length}, State.{NameAndCycle, State, Tree as TreeOf}}
 use Rattle.rio_machine.specs.declared.command.Command.{Command, TheVariants.{Bad, Class, Put, Batch, Delete, Tree, Fill, Save, Get, Scan, Ls}}

@@ -2,7 +2,7 @@
 use Rattle.std.specs.Prelude.{◌≡◌, ◌<◌, ◌≤◌, ℕ, zero, suc, ◌+◌, ◌*◌, ◌/◌, ◌^◌, ◌==◌, min, List, [], ◌∷◌, codes, length, slice_get, Bool, true, false, Option, Some, None, unwrap_or, if◌then◌else◌}
 use Rattle.std.specs.List.{All, list_all}
 use Rattle.rio_leaf.specs.declared.branch.BranchDef.{BranchDef}
-use Rattle.rio_basket.specs.{Open.{entries_length}, Record.{basket_key_length}}
+use Rattle.rio_key.specs.{OpenBasket.{entries_length}, BasketRecord.{basket_key_length}}
 use Rattle.rio_machine.specs.Limits.{branch_limit, head_length}
 use Rattle.rio_tree.specs.{Header.{has_offsets}, HeaderLength.{header_length, header_size}}
 use Rattle.rio_state.specs.Closing.{padded_length}

@@ -5,8 +5,7 @@ use Rattle.rio_key.specs.declared.head.KeyHead.{KeyHead}
 use Rattle.rio_chain.specs.{Batches.{AreRecords, cut_by}, Changes.{with_record, with_records}, Segments.{IsRecord}}
 use Rattle.rio_chain.specs.Placing.{file_end, place_of, record_count, with_segment, with_segments}
 use Rattle.rio_chain.specs.{declared.fault.PlanFault.{PlanFault, TheVariants.{Full, NoMemory as NoRoomFor}}, declared.segment.Segment.{Segment}}
-use Rattle.rio_types.specs.declared.class.ClassDef.{ClassDef}
-use Rattle.rio_format.specs.Written.{written_form}
+use Rattle.rio_format.specs.{declared.class.ClassDef.{ClassDef}, Written.{written_form}}
 use Rattle.rio_machine.specs.Limits.{batch_limit, head_length}
 use Rattle.rio_judge.specs.declared.work.StoredObject.{StoredObject}
 use Rattle.rio_chain.specs.{Record.{new_key, record_bytes}, declared.record.NewRecord.{NewRecord}, declared.key_words.KeyWords.{KeyWords}}

@@ -5,7 +5,7 @@ use Rattle.rio_chain.specs.{Chains.{HasChain}, Segments.{Link}, Walks.{Told}}
 use Rattle.rio_fill.specs.Fill.{entry_count}
 use Rattle.rio_machine.specs.{State.{Row}, declared.command.Outcome.{Outcome}}
 use Rattle.rio_reply.specs.Scanned.{scan_start}
-use Rattle.rio_types.specs.declared.class.Base.{Base}
+use Rattle.rio_format.specs.declared.class.Base.{Base}
 use Rattle.rio_session.specs.{Causes.{IsSaid}, Fills.{FilledTree}, Gets.{PrintsTold}, Replying.{Replies}, Scans.{AreRowsOf, FoundRow, lines_behind}}
 use Rattle.rio_session.specs.{SessionState.{SessionState}, declared.fault.SessionFault.{SessionFault}}
 

@@ -3,7 +3,7 @@ use Rattle.std.specs.Prelude.{◌≡◌, ◌≤◌, ◌<◌, ℕ, ◌+◌, ◌-�
 use Rattle.std.specs.Result.{result_map_both}
 use Rattle.rio_num.specs.{Answers.{GivesUnless}, Reading.{◌>>=◌, some_if}}
 use Rattle.rio_host.specs.Host.{View}
-use Rattle.rio_basket.specs.Cut.{all_entries, firsts_from}
+use Rattle.rio_key.specs.Cut.{all_entries, firsts_from}
 use Rattle.rio_chain.specs.{Chains.{HasChain, HasRecordSegment}, Segments.{Link}, Walks.{Told}, declared.segment.Segment.{Segment}}
 use Rattle.rio_entry.specs.{RowFaults.{fault_held, fault_of_entry, no_entry_fault}, StoredEntries.{StoredEntries, entries_or_none}}
 use Rattle.rio_entry.specs.{declared.lane.Lane.{Lane}, declared.lane.RowFault.{RowFault}}
@@ -16,7 +16,7 @@ use Rattle.rio_reply.specs.Scanned.{row_fault_line}
 use Rattle.rio_state.specs.KeyedRecords.{keyed_records, record_at}
 use Rattle.rio_step.specs.{Refusing.{row_seen_in, rows_seen_in}, ReplyText.{text_of}, Step.{rows_told}}
 use Rattle.rio_tree.specs.{Header.{has_offsets}, SavedEntries.{entries_at}, declared.basket_at.BasketAt.{BasketAt}}
-use Rattle.rio_types.specs.declared.{class.Base.{Base}, class.ClassDef.{ClassDef}}
+use Rattle.rio_format.specs.{declared.class.Base.{Base}, declared.class.ClassDef.{ClassDef}}
 use Rattle.rio_effect.specs.SavedRows.{HoldAllEntries}
 
 -- ---- the rows

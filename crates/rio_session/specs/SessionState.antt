@@ -1,6 +1,6 @@
 -- What a session keeps beside its file.
 use Rattle.std.specs.Prelude.{ℕ, ◌+◌, ◌-◌, ◌^◌, min, map, Bool, List, Option}
-use Rattle.rio_types.specs.declared.class.ClassDef.{ClassDef}
+use Rattle.rio_format.specs.declared.class.ClassDef.{ClassDef}
 use Rattle.rio_key.specs.declared.head.KeyHead.{KeyHead}
 use Rattle.rio_chain.specs.declared.segment.Segment.{Segment}
 use Rattle.rio_tree_table.specs.declared.table.KeptTree.{KeptTree}

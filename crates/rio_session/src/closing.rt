@@ -13,6 +13,7 @@ use crate::header::TREE_CLASS;
 use crate::open_tree::OpenTree;
 use crate::save::{make_save, save_lengths};
 use crate::steps::Step;
+use rio_machine::CYCLE_LIMIT;
 use rio_chain::Chain;
 use rio_close::{CloseRecords, close_records};
 use rio_dir::KeyTable;
@@ -34,9 +35,6 @@ pub(crate) struct PlannedClose {
     pub(crate) steps: Vec<Step>,
     pub(crate) records: CloseRecords,
 }
-
-// The last cycle that a tree may have.
-const LAST_CYCLE: u16 = 32767;
 
 // Changes the chain as the step does.
 fn note_step(chain: &mut Chain, step: &Step)
@@ -79,7 +77,7 @@ fn has_cycle(table: &KeyTable, tree: &OpenTree) -> bool
         return true;
     }
     match table.find(tree.name.as_slice(), None) {
-        Some(head) => head.cycle < LAST_CYCLE,
+        Some(head) => u32::from(head.cycle) < CYCLE_LIMIT,
         None => false,
     }
 }
@@ -102,7 +100,7 @@ fn is_due(tree: &OpenTree) -> bool
 fn has_next(head: &KeyHead) -> bool
     ensures { result ≡ has_next head.now }
 {
-    head.class.as_slice() == TREE_CLASS && head.cycle < LAST_CYCLE
+    head.class.as_slice() == TREE_CLASS && u32::from(head.cycle) < CYCLE_LIMIT
 }
 
 // The key of the header of a tree that counts. It is that of a tree, and there is a next cycle: else a record would be wanting.

@@ -3,13 +3,13 @@ ghost use Rattle.std.specs.Prelude.{◌≡◌, ◌+◌, ◌-◌, ◌^◌, ◌<�
 ghost use Rattle.rio_num.specs.Room.{room_of};
 ghost use Rattle.rio_chain.specs.Segments.{IsRecord};
 ghost use Rattle.rio_effect.specs.TreeRecords.{header_key, header_record, header_words};
-ghost use Rattle.rio_format.specs.TreeClasses.{tree_classes};
-ghost use Rattle.rio_format.specs.Written.{written_form};
+ghost use Rattle.rio_format.specs.{TreeClasses.{tree_classes}, Written.{written_form}};
 ghost use Rattle.rio_tree.specs.HeaderLength.{basket_count, header_length, header_size};
 ghost use Rattle.rio_tree.specs.WrittenLaws.{stated_defs};
 ghost use Rattle.rio_tree.specs.WrittenTree.{tree_value_of};
 
-use crate::place::{DIRECTORY, key_length};
+use crate::place::key_length;
+use rio_key::FIRST_PLACE;
 use rio_chain::{KeyWords, NewRecord, new_record};
 use rio_describe::tree_classes;
 use rio_num::{Bytes, Name, NoMemory};
@@ -70,7 +70,7 @@ fn header_words(
 {
     Ok(KeyWords {
         place,
-        directory: DIRECTORY,
+        directory: FIRST_PLACE,
         datime,
         cycle,
         class: Name::from_slice(alloc, TREE_CLASS)?,

@@ -1,11 +1,10 @@
 //! The class list of a session is written.
-use crate::place::DIRECTORY;
 use crate::replace::put_and_release;
 use crate::{Session, SessionFault};
 use rio_chain::{KeyWords, NewRecord, new_record};
 use rio_host::Host;
 use rio_info::write_info;
-use rio_key::key_length_of;
+use rio_key::{FIRST_PLACE, key_length_of};
 use rio_machine::Outcome;
 use rio_num::{Name, NoMemory};
 use std::alloc::Global;
@@ -33,7 +32,7 @@ fn list_words(alloc: Global, place: u64, datime: u32, cycle: u16) -> Result<KeyW
 {
     Ok(KeyWords {
         place,
-        directory: DIRECTORY,
+        directory: FIRST_PLACE,
         datime,
         cycle,
         class: Name::from_slice(alloc, LIST_CLASS)?,

@@ -10,7 +10,7 @@ ghost use Rattle.rio_tree.specs.WrittenLaws.{branch_of_leaf, counting_branches};
 use rio_leaf::{BranchDef, Dim, Leaf, Shape, leaves_of};
 use rio_num::NoMemory;
 use rio_tree::{Baskets, Branch, BranchNumbers, Branches, TreeHead, has_offsets};
-use rio_types::Classes;
+use rio_format::Classes;
 use std::alloc::Global;
 
 // The version that the header gives the class of a branch: the newest.

@@ -11,16 +11,12 @@ ghost use Rattle.rio_session.specs.Puts.{IsFullFor, stored_words};
 
 use rio_chain::{Chain, KeyWords, NewRecord, PlanFault, new_record};
 use rio_judge::StoredObject;
-use rio_key::key_length_of;
+use rio_key::{FIRST_PLACE, key_length_of};
 use rio_num::{Name, NoMemory};
 use rio_state::END_LIMIT;
-use rio_types::Classes;
-use rio_value::Value;
+use rio_format::{Classes, Value};
 use rio_write::write_object;
 use std::alloc::Global;
-
-/// The place of the directory that objects are in.
-pub(crate) const DIRECTORY: u64 = 100;
 
 // How long the key of an object's record is.
 pub(crate) fn key_length(class: &[u8], name: &[u8]) -> u64
@@ -64,7 +60,7 @@ pub(crate) fn words_of(
 {
     Ok(KeyWords {
         place,
-        directory: DIRECTORY,
+        directory: FIRST_PLACE,
         datime,
         cycle: object.cycle,
         class: object.class.copy()?,

@@ -8,7 +8,7 @@ use rio_key::KeyHead;
 use rio_machine::Outcome;
 use rio_model::MapFault;
 use rio_num::Bytes;
-use rio_types::Base;
+use rio_format::Base;
 
 /// The text of a scan, or why the rows can't be had in the version.
 type ScanText = Result<Bytes, MapFault>;

@@ -5,7 +5,7 @@ ghost use Rattle.std.specs.Result.{result_map_both};
 ghost use Rattle.rio_num.specs.Answers.{GivesUnless};
 ghost use Rattle.rio_host.specs.OnlyReads.{OnlyReads};
 ghost use Rattle.rio_host.specs.Reading.{IsReadCause};
-ghost use Rattle.rio_basket.specs.Entries.{entries_in};
+ghost use Rattle.rio_key.specs.BasketEntries.{entries_in};
 ghost use Rattle.rio_chain.specs.Chains.{HasChain, HasRecordSegment, HoldsChain};
 ghost use Rattle.rio_chain.specs.Segments.{Link};
 ghost use Rattle.rio_entry.specs.Counting.{counters_within};
@@ -17,7 +17,7 @@ ghost use Rattle.rio_session.specs.HeldBaskets.{AreLanes, AreStored, HoldEntry, 
 ghost use Rattle.rio_machine.specs.State.{Row};
 ghost use Rattle.rio_session.specs.Scans.{AreRowsOf, Scans, entries_of_row, entry_held, entry_within, line_behind, open_entry, row_held, row_of_entries, stored_entry};
 
-use rio_basket::{Basket, BasketFault, StoredBasket};
+use rio_key::{Basket, BasketFault, StoredBasket};
 use rio_chain::{Chain, ReadFault};
 use rio_entry::{
     EntryFault, FoundBasket, Lane, LeafCounters, RowFault, RowPart, basket_from, empty_lanes,
@@ -30,8 +30,7 @@ use rio_model::MapFault;
 use rio_num::{Bytes, NoMemory};
 use rio_reply::{put_row_fault, put_row_line, put_row_line_as, put_scan_start};
 use rio_tree::{BasketAt, has_offsets};
-use rio_types::{Base, Classes};
-use rio_value::Values;
+use rio_format::{Base, Classes, Values};
 use std::alloc::Global;
 
 /// A tree whose rows are read: the chain of its file, the classes, and its branches with their counters.

@@ -3,8 +3,7 @@ use Rattle.std.proofs.Common.{◌≡◌, ℕ, ◌+◌, ◌-◌, ◌^◌, ◌<◌
 use Rattle.std.proofs.{lemmas.Bool.{or_right}, lemmas.List.{length-append}, lemmas.Slice.Eq.{bytes_eq-Decides}}
 use Rattle.std.specs.{List.{find}, Map.{lookup}, Int.{w16, cast_unsigned}, Str.{bytes_eq}}
 use Rattle.byteorder.specs.{Endian.{big_bytes}, Numbers.{length-bytes_high_first}}
-use Rattle.rio_buffer.specs.{ReaderState.{WordsMet, with_label, with_name}, Writer.{Writer, class_by, class_bytes}}
-use Rattle.rio_types.specs.declared.kind.Kind.TheVariants.{Inline}
+use Rattle.rio_format.specs.{ReaderState.{WordsMet, with_label, with_name}, Writer.{Writer, class_by, class_bytes}, declared.kind.Kind.TheVariants.{Inline}}
 use Rattle.rio_format.specs.{Slots.{kinded}, Written.{Writing, both, headed_bytes, just, labelled, pointed_bytes}}
 use Rattle.rio_format.proofs.WrittenPlaces.{Names, names_more, names_push}
 use Rattle.rio_tree.proofs.WrittenLengths.{Alike, alike_later, is_named, named_alike, named_found, named_push, not_named, pushed}

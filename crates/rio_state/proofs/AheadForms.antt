@@ -6,15 +6,11 @@ use Rattle.byteorder.specs.{Endian.{big_bytes}, Numbers.{length-bytes_high_first
 use Rattle.rio_num.proofs.Intro.{IsSo}
 use Rattle.rio_num.proofs.Apart.{both_of, here_of, must_of, number_of}
 use Rattle.rio_num.specs.{Layout.{behind, broken, choice, done, number}}
-use Rattle.rio_types.specs.declared.class.ClassDef.{ClassDef}
-use Rattle.rio_types.specs.declared.kind.Kind.TheVariants.{Plain, Inline}
-use Rattle.rio_types.specs.declared.kind.Primitive.{Primitive, TheVariants.{U16, U32}}
-use Rattle.rio_value.specs.{declared.value.Value.{Value, Int, Object}, declared.value.Part.{Part}}
-use Rattle.rio_buffer.specs.{Frames.{ObjLayout, checksum_behind, end_of, header, header_end, is_count}, ReaderState.{WordsMet, no_words}, Writer.{Writer}, declared.words.Header.{Header}}
-use Rattle.rio_buffer.specs.declared.fault.ObjFault.{ObjFault, TheVariants.{BadCount, NoCount, Short, TooDeep}}
-use Rattle.rio_format.specs.declared.form.Form.{Form, TheVariants.{Bare as bare, Numbers as numbers, Headed as with_header}}
-use Rattle.rio_format.specs.Bodies.{Body, described, listed, arrayed, opaque, body_of, form_of, headless_classes, part, row_of}
-use Rattle.rio_format.specs.{Growth.{is_all_read}, Prims.{width_of}}
+use Rattle.rio_format.specs.{declared.class.ClassDef.{ClassDef}, declared.kind.Kind.TheVariants.{Plain, Inline}, declared.kind.Primitive.{Primitive, TheVariants.{U16, U32}}}
+use Rattle.rio_format.specs.{declared.value.Value.{Value, Int, Object}, declared.value.Part.{Part}}
+use Rattle.rio_format.specs.{Frames.{ObjLayout, checksum_behind, end_of, header, header_end, is_count}, ReaderState.{WordsMet, no_words}, Writer.{Writer}, declared.words.Header.{Header}}
+use Rattle.rio_format.specs.{declared.fault.ObjFault.{ObjFault, TheVariants.{BadCount, NoCount, Short, TooDeep}}, declared.form.Form.{Form, TheVariants.{Bare as bare, Numbers as numbers, Headed as with_header}}}
+use Rattle.rio_format.specs.{Bodies.{Body, described, listed, arrayed, opaque, body_of, form_of, headless_classes, part, row_of}, Growth.{is_all_read}, Prims.{width_of}}
 use Rattle.rio_format.specs.Objects.{Objects, SpellsObject, array_parts, bare_layout, body, closed, count_of, depth_limit, formed, has_pid, headed, list_parts, number_array, object_of, parts, pid_of, pid_part, unread, whole_object}
 use Rattle.rio_format.specs.Slots.{Slot, declared_body, described_fields, flags, kinded, many}
 use Rattle.rio_format.specs.Written.{Writing, arrayed_bytes, bare_bytes, body_bytes, both, fields_bytes, form_bytes, headed_bytes, just, listed_bytes, writing_of, written_form}

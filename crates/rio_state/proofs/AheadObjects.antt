@@ -7,14 +7,9 @@ use Rattle.rio_num.proofs.Intro.{IsSo}
 use Rattle.rio_num.proofs.Apart.{both_of, here_of, must_of, number_of, text_of}
 use Rattle.rio_num.specs.{Layout.{behind, done, each}}
 use Rattle.rio_num.proofs.TextLengths.{shortest_text}
-use Rattle.rio_types.specs.{declared.class.Base.{Base}, declared.class.ClassDef.{ClassDef}, declared.class.Member.{Member}}
-use Rattle.rio_types.specs.declared.kind.Kind.{TheVariants.{Plain, Text as Texted}}
-use Rattle.rio_types.specs.declared.kind.Primitive.{TheVariants.{I32}}
-use Rattle.rio_value.specs.{declared.value.Value.{Value, Text, List as Items}, declared.value.Part.{Part}}
-use Rattle.rio_buffer.specs.{Frames.{ObjLayout}, ReaderState.{WordsMet}, declared.fault.ObjFault.{ObjFault}}
-use Rattle.rio_format.specs.Bodies.{Counters, counters_with, part}
-use Rattle.rio_format.specs.Growth.{is_all_read}
-use Rattle.rio_format.specs.Objects.{Objects, array_parts, base_part, count_of, kind_value, link, list_parts, member_part, member_parts, parts, pointer}
+use Rattle.rio_format.specs.{declared.class.Base.{Base}, declared.class.ClassDef.{ClassDef}, declared.class.Member.{Member}, declared.kind.Kind.TheVariants.{Plain, Text as Texted}, declared.kind.Primitive.TheVariants.{I32}}
+use Rattle.rio_format.specs.{declared.value.Value.{Value, Text, List as Items}, declared.value.Part.{Part}, Frames.{ObjLayout}, ReaderState.{WordsMet}, declared.fault.ObjFault.{ObjFault}}
+use Rattle.rio_format.specs.{Bodies.{Counters, counters_with, part}, Growth.{is_all_read}, Objects.{Objects, array_parts, base_part, count_of, kind_value, link, list_parts, member_part, member_parts, parts, pointer}}
 use Rattle.rio_format.specs.Slots.{Field, Slot, any_pointer, based, base_field, described_fields, kinded, many, member_field, link as link_slot}
 use Rattle.rio_format.specs.Written.{Writing, all, arrayed_bytes, both, fields_bytes, just, listed_bytes, writing_of}
 use Rattle.rio_format.proofs.{AllRead.{AllRead, PartRead, each_back, each_front, items_read}, ValueCases.{Each}, WrittenLists.{writings}}

@@ -6,20 +6,13 @@ use Rattle.byteorder.specs.{Endian.{big_bytes}, Numbers.{length-bytes_high_first
 use Rattle.rio_num.proofs.Intro.{IsSo}
 use Rattle.rio_num.proofs.Apart.{both_of, here_of, number_of}
 use Rattle.rio_num.specs.{Layout.{Layout, behind, broken, choice, done, known, must, met, note, reaches}, Meanings.{Spells}}
-use Rattle.rio_types.specs.{declared.class.ClassDef.{ClassDef}}
-use Rattle.rio_types.specs.declared.kind.Kind.{Kind, TheVariants.{Plain, Counter, Fixed, Counted, Text as Texted, Inline, Pointer, Other}}
-use Rattle.rio_types.specs.declared.kind.Primitive.{Primitive}
-use Rattle.rio_value.specs.{declared.value.Value.{Value, List as Items, Pointed, Null as Nothing, Back as Earlier}}
-use Rattle.rio_buffer.specs.{Frames.{class_word, counted_end, end_of, finish, is_count, known_class, new_class, new_word, pointer_word, reference}, ReaderState.{WordsMet, with_label, with_name}, Writer.{Writer, class_bytes}}
-use Rattle.rio_buffer.specs.declared.fault.ObjFault.{ObjFault, TheVariants.{BadFlag, CountMismatch, NoCount, UnknownClassWord, UnknownRef}}
-use Rattle.rio_buffer.specs.declared.words.PointerWord.{PointerWord, TheVariants.{Null, New, Back}}
-use Rattle.rio_format.specs.Bodies.{Counters, count_by}
-use Rattle.rio_format.specs.Objects.{Objects, counted_values, filled, kind_value, pointed, pointer}
-use Rattle.rio_format.specs.Slots.{Slot, kinded}
-use Rattle.rio_format.specs.Written.{Writing, all, counted_bytes, just, pointed_bytes, reference_bytes, writing_of, writing_step}
-use Rattle.rio_format.proofs.{ValueCases.{fold_Back, fold_Null, fold_Pointed}}
-use Rattle.rio_format.specs.Growth.{is_all_read}
-use Rattle.rio_format.proofs.AllRead.{AllRead, pointed_read}
+use Rattle.rio_format.specs.{declared.class.ClassDef.{ClassDef}, declared.kind.Kind.{Kind, TheVariants.{Plain, Counter, Fixed, Counted, Text as Texted, Inline, Pointer, Other}}, declared.kind.Primitive.{Primitive}}
+use Rattle.rio_format.specs.declared.value.Value.{Value, List as Items, Pointed, Null as Nothing, Back as Earlier}
+use Rattle.rio_format.specs.{Frames.{class_word, counted_end, end_of, finish, is_count, known_class, new_class, new_word, pointer_word, reference}, ReaderState.{WordsMet, with_label, with_name}, Writer.{Writer, class_bytes}}
+use Rattle.rio_format.specs.{declared.fault.ObjFault.{ObjFault, TheVariants.{BadFlag, CountMismatch, NoCount, UnknownClassWord, UnknownRef}}, declared.words.PointerWord.{PointerWord, TheVariants.{Null, New, Back}}}
+use Rattle.rio_format.specs.{Bodies.{Counters, count_by}, Objects.{Objects, counted_values, filled, kind_value, pointed, pointer}, Slots.{Slot, kinded}}
+use Rattle.rio_format.specs.{Written.{Writing, all, counted_bytes, just, pointed_bytes, reference_bytes, writing_of, writing_step}, Growth.{is_all_read}}
+use Rattle.rio_format.proofs.{ValueCases.{fold_Back, fold_Null, fold_Pointed}, AllRead.{AllRead, pointed_read}}
 use Rattle.rio_state.proofs.Ahead.{Ahead, ahead_as, ahead_both, ahead_just, ahead_known, ahead_new, ahead_pointed, looked_up}
 use Rattle.rio_state.proofs.AheadValues.{counter_covers, items_ahead, number_covers, plain_ahead, numbers_covers, numbers_read, text_covers}
 

@@ -5,14 +5,11 @@ use Rattle.std.specs.{Prelude.{◌==◌, not}, Int.{w8, w16, w32, w64, cast_sign
 use Rattle.byteorder.specs.{Endian.{big_bytes}, Numbers.{length-bytes_high_first}}
 use Rattle.rio_num.specs.{Layout.{each, times}, Meanings.{Spells}, Text.{text_bytes}}
 use Rattle.rio_num.proofs.TextLengths.{shortest_text}
-use Rattle.rio_types.specs.declared.class.ClassDef.{ClassDef}
-use Rattle.rio_types.specs.declared.kind.Kind.TheVariants.{Plain, Counter, Text as Texted}
-use Rattle.rio_types.specs.declared.kind.Primitive.{Primitive, TheVariants.{I8, I16, I32, I64, U8, U16, U32, U64, Bool as Boolean, F32, F64}}
-use Rattle.rio_value.specs.declared.value.Value.{Value, Int, Bits32, Bits64, Bool as Truth, Text, List as Items}
-use Rattle.rio_value.specs.declared.value.Value.TheOpen as layer
-use Rattle.rio_buffer.specs.{Frames.{ObjLayout}, ReaderState.{WordsMet}, Writer.{Writer}}
-use Rattle.rio_format.specs.{Objects.{number_value, numbers, text_value}, Prims.{value_of_prim, width_of}, Slots.{Slot, kinded}}
-use Rattle.rio_format.specs.Written.{Writing, all, int_bytes, just, list_bytes, writing_of, writing_step}
+use Rattle.rio_format.specs.{declared.class.ClassDef.{ClassDef}, declared.kind.Kind.TheVariants.{Plain, Counter, Text as Texted}}
+use Rattle.rio_format.specs.declared.kind.Primitive.{Primitive, TheVariants.{I8, I16, I32, I64, U8, U16, U32, U64, Bool as Boolean, F32, F64}}
+use Rattle.rio_format.specs.{declared.value.Value.{Value, Int, Bits32, Bits64, Bool as Truth, Text, List as Items}, Frames.{ObjLayout}, ReaderState.{WordsMet}, Writer.{Writer}}
+use Rattle.rio_format.specs.declared.value.Value.TheOpen as layer
+use Rattle.rio_format.specs.{Objects.{number_value, numbers, text_value}, Prims.{value_of_prim, width_of}, Slots.{Slot, kinded}, Written.{Writing, all, int_bytes, just, list_bytes, writing_of, writing_step}}
 use Rattle.rio_format.proofs.ValueCases.{fold_Bits32, fold_Bits64, fold_Bool, fold_Int, fold_List, fold_Text}
 use Rattle.rio_state.proofs.Ahead.{Ahead, ahead_as, ahead_both, ahead_just}
 

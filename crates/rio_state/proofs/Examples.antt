@@ -5,8 +5,7 @@ use Rattle.byteorder.specs.Endian.{big_bytes}
 use Rattle.rio_num.specs.{Reading.{text_at}, Layout.{each}}
 use Rattle.rio_key.specs.Key.{key_fields, key_layout}
 use Rattle.rio_head.specs.declared.reason.Reason.TheVariants.{OtherDirectory, BadInfo, BadName, BadKey, BadObject}
-use Rattle.rio_buffer.specs.Frames.{header}
-use Rattle.rio_format.specs.Objects.{object_of, formed, headed, body, unread, whole_object, closed, parts, base_part, member_parts, member_part, kind_value, text_value, bare_layout}
+use Rattle.rio_format.specs.{Frames.{header}, Objects.{object_of, formed, headed, body, unread, whole_object, closed, parts, base_part, member_parts, member_part, kind_value, text_value, bare_layout}}
 use Rattle.rio_chain.specs.{Segments.{Link, RecordAt}, declared.segment.Segment.TheVariants.{Record, Gap}}
 use Rattle.rio_machine.specs.State.{empty_state}
 use Rattle.rio_state.specs.{Closing.{close_need, held_of, held_with, is_full, kept_in, kept_with, lay_all}, TreeLengths.{put_among}, Contents.{object_in}, KeyedRecords.{keyed_records}}

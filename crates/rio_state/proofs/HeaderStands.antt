@@ -5,14 +5,11 @@ use Rattle.std.specs.{Prelude.{option_and_then}, Result.{result_ok, result_unwra
 use Rattle.rio_num.proofs.Intro.{IsSo}
 use Rattle.rio_num.proofs.Apart.{both_of, here_of}
 use Rattle.rio_num.specs.{At.{AreBytes}, Layout.{broken}, Reading.{some_if}, Room.{is_padding}}
-use Rattle.rio_types.specs.declared.class.ClassDef.{ClassDef}
-use Rattle.rio_value.specs.{CodeLaws.{coded_decides}, declared.value.Value.{Value}}
-use Rattle.rio_value.specs.contracts.value.Value as values
-use Rattle.rio_buffer.specs.declared.fault.ObjFault.{ObjFault, TheVariants.{TooDeep}}
-use Rattle.rio_buffer.specs.{Frames.{Step}, ReaderState.{ReaderState, WordsMet, no_words}, declared.words.Header.{Header}}
-use Rattle.rio_format.specs.{Bodies.{body_of}, Growth.{is_all_read}, Objects.{SpellsObject, body, depth_limit, first_at, formed, headed, object_of}, TreeClasses.{written_classes}, Written.{Writing}}
-use Rattle.rio_format.specs.Slots.{kinded}
-use Rattle.rio_types.specs.declared.kind.Kind.TheVariants.{Inline}
+use Rattle.rio_format.specs.{declared.class.ClassDef.{ClassDef}, CodeLaws.{coded_decides}, declared.value.Value.{Value}, declared.fault.ObjFault.{ObjFault, TheVariants.{TooDeep}}}
+use Rattle.rio_format.specs.contracts.value.Value as values
+use Rattle.rio_format.specs.{Frames.{Step}, ReaderState.{ReaderState, WordsMet, no_words}, declared.words.Header.{Header}}
+use Rattle.rio_format.specs.{Bodies.{body_of}, Growth.{is_all_read}, Objects.{SpellsObject, body, depth_limit, first_at, formed, headed, object_of}, TreeClasses.{written_classes}, Written.{Writing}, Slots.{kinded}}
+use Rattle.rio_format.specs.declared.kind.Kind.TheVariants.{Inline}
 use Rattle.rio_format.proofs.ObjectLaws.{read_is_spelled}
 use Rattle.rio_model.specs.StateClasses.{StateClasses}
 use Rattle.rio_tree.specs.{Header.{tree_head_in}, HeaderLength.{basket_count, header_length}, WrittenLaws.{stated_defs}, WrittenTree.{tree_value_of}, declared.head.TreeHead.{TreeHead}, declared.fault.TreeFault.{TreeFault}}

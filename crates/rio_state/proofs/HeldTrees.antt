@@ -5,10 +5,8 @@ use Rattle.std.specs.{Prelude.{if◌then◌else◌, nat_lt}, Int.{w16, w32, cast
 use Rattle.byteorder.specs.{Endian.{big_bytes}, Numbers.{length-bytes_high_first}}
 use Rattle.rio_num.specs.Text.{long_form, short_form, text_bytes}
 use Rattle.rio_leaf.specs.declared.branch.BranchDef.{BranchDef}
-use Rattle.rio_types.specs.{declared.kind.Kind.TheVariants.{Plain, Text as Texted, Inline}, declared.kind.Primitive.TheVariants.{U32}}
-use Rattle.rio_value.specs.declared.value.Value.{Value, Int, Text, Object}
-use Rattle.rio_value.specs.declared.value.Part.{Part}
-use Rattle.rio_buffer.specs.{ReaderState.{WordsMet, no_words}, Writer.{Writer}}
+use Rattle.rio_format.specs.{declared.kind.Kind.TheVariants.{Plain, Text as Texted, Inline}, declared.kind.Primitive.TheVariants.{U32}, declared.value.Value.{Value, Int, Text, Object}, declared.value.Part.{Part}}
+use Rattle.rio_format.specs.{ReaderState.{WordsMet, no_words}, Writer.{Writer}}
 use Rattle.rio_key.specs.{Written.{number_bytes, written_key}, declared.head.KeyHead.{KeyHead}}
 use Rattle.rio_machine.specs.Limits.{head_length}
 use Rattle.rio_format.specs.{Bodies.{form_of, part}, Slots.{Slot, based, flags, kinded, member_field}, TreeClasses.{tree_classes, tree_members}, WrittenList.{array_object, number_part, plain_object, titled_object}}

@@ -3,8 +3,7 @@ use Rattle.std.proofs.Common.{◌≡◌, ◌⊎◌, inl, inr, ◌∙◌, List, [
 use Rattle.std.proofs.{lemmas.Bool.{and_from, and_parts, eqb-true, not-true}, lemmas.Slice.Eq.{bytes_eq-Decides}}
 use Rattle.std.specs.{Prelude.{is_some, option_and_then}, FinMap.{get}, List.{filter, find, list_any}, Str.{bytes_eq}}
 use Rattle.rio_num.proofs.Cases.{some_of}
-use Rattle.rio_types.specs.declared.class.ClassDef.{ClassDef}
-use Rattle.rio_value.specs.declared.value.Value.{Value}
+use Rattle.rio_format.specs.{declared.class.ClassDef.{ClassDef}, declared.value.Value.{Value}}
 use Rattle.rio_key.specs.declared.head.KeyHead.{KeyHead}
 use Rattle.rio_machine.specs.State.{NameAndCycle, State}
 use Rattle.rio_state.specs.{Contents.{object_in, state_classes}, DirectoryKeys.{AreKeysOf}}

@@ -3,15 +3,10 @@
 use Rattle.std.proofs.Common.{◌≡◌, ℕ, ◌+◌, ℤ, pos, Bool, true, false, cond, not, ◌&&◌, ◌||◌, codes, List, [], ◌∷◌, ◌++◌, map, Option, Some, None, refl, sym, ap, ◌∙◌}
 use Rattle.std.proofs.lemmas.Bool.{and_from, and_parts}
 use Rattle.std.specs.{Prelude.{is_some, if◌then◌else◌}, List.{find, list_all}, Map.{lookup}, Option.{option_map}, Ordering.{int_eq}, Str.{bytes_eq}}
-use Rattle.rio_buffer.specs.Writer.{Writer}
+use Rattle.rio_format.specs.{Writer.{Writer}, Classes.{find_in}, declared.class.ClassDef.{ClassDef}, declared.value.Value.{Value, Int, Bool as Truth, Text, List as Items, Object, Pointed, Null, Back, TheOpen.{Value-F}}}
 use Rattle.rio_leaf.specs.{declared.branch.Shape.{Shape, TheVariants.{Leaves, Class}}, declared.leaf.Leaf.{Leaf}, declared.leaf.Dim.{Dim, TheVariants.{One, Fixed, Counted}}}
-use Rattle.rio_types.specs.{Classes.{find_in}, declared.class.ClassDef.{ClassDef}}
-use Rattle.rio_value.specs.declared.value.Value.{Value, Int, Bool as Truth, Text, List as Items, Object, Pointed, Null, Back}
-use Rattle.rio_value.specs.declared.value.Value.TheOpen.{Value-F}
-use Rattle.rio_value.specs.declared.value.Value.TheOpen as layer
-use Rattle.rio_value.specs.declared.value.Value.TheFolds.{fold-Value, fold-Part, fold_out-Part}
-use Rattle.rio_value.specs.declared.value.Part.{Part}
-use Rattle.rio_format.specs.declared.form.Form.{Form, TheVariants.{Bare as bare, Numbers as numbers, Headed as with_header}}
+use Rattle.rio_format.specs.declared.value.Value.TheOpen as layer
+use Rattle.rio_format.specs.{declared.value.Value.TheFolds.{fold-Value, fold-Part, fold_out-Part}, declared.value.Part.{Part}, declared.form.Form.{Form, TheVariants.{Bare as bare, Numbers as numbers, Headed as with_header}}}
 use Rattle.rio_format.specs.{Bodies.{Body, built_in, described, form_of, part}, Growth.{all_read_step, is_all_read}, Slots.{declared_body, is_headed}, TreeClasses.{tree_classes}}
 use Rattle.rio_format.specs.{WrittenList.{array_object, number_part, plain_object, titled_object}, Written.{Writing, body_bytes, form_bytes, headed_bytes, writing_of, writing_step}}
 use Rattle.rio_format.proofs.{AllRead.{items_layer, parts_layer, pointed_layer}, ValueCases.{Each, by_cases, fold_Int, fold_Bits32, fold_Bits64, fold_Bool, fold_Text, fold_List, fold_Object, fold_Pointed, fold_Null, fold_Back, fold_Opaque}}

@@ -3,9 +3,9 @@ use Rattle.std.proofs.Common.{◌≡◌, ◌∙◌, ℕ, ◌+◌, List, [], ◌�
 use Rattle.std.proofs.lemmas.List.Sums.{sum_by-cons}
 use Rattle.std.specs.{List.{cons_option, flat_map, sum_by}, Option.{option_map, option_map_or}}
 use Rattle.rio_leaf.specs.declared.branch.BranchDef.{BranchDef}
-use Rattle.rio_types.specs.declared.class.ClassDef.{ClassDef}
+use Rattle.rio_format.specs.declared.class.ClassDef.{ClassDef}
 use Rattle.rio_machine.specs.Limits.{head_length}
-use Rattle.rio_basket.specs.Cut.{Cut, baskets_of_cut, cut_of}
+use Rattle.rio_key.specs.Cut.{Cut, baskets_of_cut, cut_of}
 use Rattle.rio_tree.specs.{HeaderLength.{basket_count, header_length}, WrittenLaws.{stated_defs}, declared.head.TreeHead.{TreeHead}}
 use Rattle.rio_state.specs.{Contents.{FileClasses}, KeyedRecords.{KeyedRecord}, Trees.{header_in}}
 use Rattle.rio_state.specs.TreeLengths.{TreeLengths, cut_count, entries_by_branch, idle_length, none_pending, open_baskets, put_among, put_count, save_lengths, small_fillings, tree_lengths, trees_among}

@@ -3,8 +3,7 @@ use Rattle.std.proofs.Common.{◌≡◌, ℕ, ◌∙◌, List, [], ◌∷◌, �
 use Rattle.std.proofs.{lemmas.Bool.{and_from, and_left, and_parts, and_right, not-true, or_parts}, lemmas.List.Elements.{filter_agree}}
 use Rattle.std.proofs.{lemmas.Map.Views.{tells_apart}, lemmas.Slice.Eq.{bytes_eq-Decides}}
 use Rattle.std.specs.{Prelude.{is_some, nat_lt, option_and_then}, FinMap.{get, get-insert, insert}, List.{filter, list_all, list_any}, Str.{bytes_eq}}
-use Rattle.rio_types.specs.declared.class.ClassDef.{ClassDef}
-use Rattle.rio_value.specs.declared.value.Value.{Value}
+use Rattle.rio_format.specs.{declared.class.ClassDef.{ClassDef}, declared.value.Value.{Value}}
 use Rattle.rio_machine.proofs.OrderLaws.{items_tie, items_total}
 use Rattle.rio_machine.specs.State.{NameAndCycle, State}
 use Rattle.rio_state.proofs.{Collected.{item_same}, NoReason.{item_turned}}

@@ -2,8 +2,7 @@
 use Rattle.std.proofs.Common.{◌≡◌, ◌⊎◌, inl, inr, ℕ, ℤ, pos, Bool, true, false, cond, ◌&&◌, List, [], ◌∷◌, ◌++◌, Option, Some, None, not, refl, sym, ap, subst, ◌∙◌, append_assoc, append-nil}
 use Rattle.std.proofs.{lemmas.Bool.{and_from, and_parts, not-true}, lemmas.Bool.Decides.{Decides-int_eq}, lemmas.Slice.Eq.{bytes_eq-Decides}}
 use Rattle.std.specs.{Prelude.{◌==◌, unwrap_or, is_some, if◌then◌else◌}, List.{find, list_all}, Option.{option_map, option_map_or, option_or}, Ordering.{int_eq}, Str.{bytes_eq}}
-use Rattle.rio_types.specs.{Classes.{find_in, find_sum_in}, declared.class.ClassDef.{ClassDef}, Members.{can_read_all}}
-use Rattle.rio_format.specs.{TreeClasses.{tree_classes, written_classes}, Slots.{declared_body}}
+use Rattle.rio_format.specs.{Classes.{find_in, find_sum_in}, declared.class.ClassDef.{ClassDef}, Members.{can_read_all}, TreeClasses.{tree_classes, written_classes}, Slots.{declared_body}}
 use Rattle.rio_format.specs.Bodies.{Body, arrayed, body_of, built_in, by_description, described, headed_classes, listed, opaque, picked, stated_version}
 use Rattle.rio_format.proofs.BuiltInLaws.{of_body}
 use Rattle.rio_model.specs.{Declaring.{declare_fault, is_reserved_name, knows_all, holds_itself, limit_fault}, StateClasses.{AreAccepted, StateClasses}}

@@ -1,7 +1,7 @@
 -- The saved rows of a tree depend on the records at the places of its baskets alone.
 use Rattle.std.proofs.Common.{◌≡◌, inl, inr, ◌∙◌, ℕ, List, [], ◌∷◌, ◌++◌, map, Bool, true, Option, Some, None, refl, sym, ap}
 use Rattle.std.specs.{Prelude.{is_none, is_some, option_and_then}, Option.{option_map}}
-use Rattle.rio_types.specs.declared.class.ClassDef.{ClassDef}
+use Rattle.rio_format.specs.declared.class.ClassDef.{ClassDef}
 use Rattle.rio_num.specs.Reading.{some_if}
 use Rattle.rio_tree.specs.{Index.{basket_counts}, WrittenLaws.{stated_defs}, declared.basket_at.BasketAt.{BasketAt}, declared.head.Branch.{Branch}, declared.head.TreeHead.{TreeHead}}
 use Rattle.rio_machine.specs.RowEntries.{fitting_row}

@@ -3,7 +3,7 @@ use Rattle.std.proofs.Common.{◌≡◌, ◌⊎◌, inl, inr, ◌↔◌, ℕ, �
 use Rattle.std.proofs.{lemmas.Bool.{and_from, and_parts, eq-eqb, lt-ltb, ltb-false, ltb-true, not-false, not-true, or_parts}, lemmas.List.Elements.{filter_agree}}
 use Rattle.std.proofs.lemmas.Slice.Eq.{bytes_eq-Decides}
 use Rattle.std.specs.{Prelude.{if◌then◌else◌, is_some, nat_lt, option_and_then}, List.{Contains, find, list_all, list_any}, Str.{bytes_eq}}
-use Rattle.rio_types.specs.declared.class.ClassDef.{ClassDef}
+use Rattle.rio_format.specs.declared.class.ClassDef.{ClassDef}
 use Rattle.rio_key.specs.declared.head.KeyHead.{KeyHead}
 use Rattle.rio_chain.specs.Segments.{Link}
 use Rattle.rio_machine.specs.State.{State, Tree}

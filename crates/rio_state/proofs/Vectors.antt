@@ -6,8 +6,7 @@ use Rattle.rio_num.specs.{Layout.{each, retold}, Reading.{text_at}}
 use Rattle.rio_host.proofs.Images.{has_back, has_front}
 use Rattle.rio_host.specs.Image.{Has}
 use Rattle.rio_key.proofs.KeyWritten.{key_spelled}
-use Rattle.rio_key.specs.{Key.{SpellsKey, key_fields, key_layout}, KeyList.{key_list_layout, listed_key}}
-use Rattle.rio_key.specs.{Written.{AreWithinFields, FitsKey, HoldsItself, written_key}, declared.head.KeyHead.{KeyHead}}
+use Rattle.rio_key.specs.{Key.{SpellsKey, key_fields, key_layout}, KeyList.{key_list_layout, listed_key}, Written.{AreWithinFields, FitsKey, HoldsItself, written_key}, declared.head.KeyHead.{KeyHead}}
 use Rattle.rio_head.specs.{Dir.{dir_layout}, Head.{behind_layout, head_at, header_layout}, declared.dir.DirRecord.{DirRecord}}
 use Rattle.rio_head.specs.declared.head.FileHead.{FileHead}
 use Rattle.rio_dir.specs.{Closed.{closed_file, closed_head, listed_at}, declared.closed.Closed.{Closed}}

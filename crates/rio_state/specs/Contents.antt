@@ -2,9 +2,7 @@
 -- the file and for its key list.
 use Rattle.std.specs.{Prelude.{◌≡◌, ◌≤◌, ◌+◌, List, [], drop, length, codes, Bool, ◌&&◌, not, Option, Some, None, Result, Ok, Err, if◌then◌else◌}, Result.{result_unwrap_or}}
 use Rattle.rio_num.specs.Room.{is_padding}
-use Rattle.rio_types.specs.declared.class.ClassDef.{ClassDef}
-use Rattle.rio_value.specs.declared.value.Value.{Value}
-use Rattle.rio_buffer.specs.{Frames.{Step}, declared.fault.ObjFault.{ObjFault}}
+use Rattle.rio_format.specs.{declared.class.ClassDef.{ClassDef}, declared.value.Value.{Value}, Frames.{Step}, declared.fault.ObjFault.{ObjFault}}
 use Rattle.rio_format.specs.{ClassList.{class_list_at}, Fits.{fits}, Objects.{first_at}, Slots.{can_be_put}, TreeClasses.{tree_classes, written_classes}}
 use Rattle.rio_model.specs.StateClasses.{StateClasses}
 use Rattle.rio_machine.specs.Limits.{has_long_list, is_too_deep, is_too_long}

@@ -3,8 +3,7 @@
 use Rattle.std.specs.Prelude.{◌≡◌, ℕ, List, [], ◌∷◌, ◌++◌, length, map, Bool, true, false, ◌==◌, ◌&&◌, not, MatchBool, Option, Some, None, is_some, option_and_then, Ok}
 use Rattle.std.specs.{FinMap.{get}, List.{All, Contains, find, list_all, list_any}}
 use Rattle.rio_num.specs.{Word.{is_item_text}, Room.{is_padding}}
-use Rattle.rio_types.specs.declared.class.ClassDef.{ClassDef}
-use Rattle.rio_value.specs.declared.value.Value.{Value}
+use Rattle.rio_format.specs.{declared.class.ClassDef.{ClassDef}, declared.value.Value.{Value}}
 use Rattle.rio_key.specs.declared.head.KeyHead.{KeyHead}
 use Rattle.rio_head.specs.{Form.{is_large_head}, Head.{head_at}, declared.head.FileHead.{FileHead}}
 use Rattle.rio_free.specs.Record.{free_bytes}

@@ -6,9 +6,9 @@
 use Rattle.std.specs.{Prelude.{ℕ, ◌+◌, List, [], ◌∷◌, ◌++◌, drop, length, map, min, codes, slice_get, Bool, ◌==◌, not, unwrap_or, if◌then◌else◌}, FinMap.{get}, List.{filter_map, sum_by}}
 use Rattle.std.specs.Option.{option_map, option_map_or}
 use Rattle.rio_leaf.specs.declared.branch.BranchDef.{BranchDef}
-use Rattle.rio_types.specs.declared.class.ClassDef.{ClassDef}
+use Rattle.rio_format.specs.declared.class.ClassDef.{ClassDef}
 use Rattle.rio_machine.specs.{Limits.{head_length}, Rows.{entries_of}, State.{Row, State}}
-use Rattle.rio_basket.specs.{Cut.{Cut, baskets_of_cut, basket_with, cut_of}, Open.{entries_length}, Record.{basket_data, basket_key_length}}
+use Rattle.rio_key.specs.{Cut.{Cut, baskets_of_cut, basket_with, cut_of}, OpenBasket.{entries_length}, BasketRecord.{basket_data, basket_key_length}}
 use Rattle.rio_tree.specs.{Header.{has_offsets}, HeaderLength.{basket_count, header_length}, WrittenLaws.{stated_defs}, declared.head.TreeHead.{TreeHead}}
 use Rattle.rio_state.specs.{Contents.{FileClasses}, KeyedRecords.{KeyedRecord}, Trees.{header_in}}
 

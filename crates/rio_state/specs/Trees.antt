@@ -4,11 +4,8 @@ use Rattle.std.specs.Prelude.{ℕ, List, [], ◌∷◌, map, codes, length, Bool
 use Rattle.std.specs.{List.{filter, find, flat_map, list_any}, Option.{option_map_or}, Result.{result_ok}, Str.{bytes_eq}}
 use Rattle.rio_num.specs.{Reading.{some_if}, Room.{is_padding}}
 use Rattle.rio_leaf.specs.{Stated.{are_stated_branches}, declared.branch.BranchDef.{BranchDef}}
-use Rattle.rio_types.specs.declared.class.ClassDef.{ClassDef}
-use Rattle.rio_value.specs.{Codes.{is_coded_same}, declared.value.Value.{Value}}
-use Rattle.rio_value.specs.contracts.value.Value as values
-use Rattle.rio_buffer.specs.Frames.{Step}
-use Rattle.rio_format.specs.Objects.{first_at}
+use Rattle.rio_format.specs.{declared.class.ClassDef.{ClassDef}, Codes.{is_coded_same}, declared.value.Value.{Value}, Frames.{Step}, Objects.{first_at}}
+use Rattle.rio_format.specs.contracts.value.Value as values
 use Rattle.rio_model.specs.Declaring.{shape_lacks_class}
 use Rattle.rio_machine.specs.{Limits.{has_many_branches}, RowEntries.{fitting_row}, State.{Row, Tree}}
 use Rattle.rio_tree.specs.{Header.{tree_head_in}, Members.{◌>>=◌}, SavedEntries.{BasketBytes, rows_by}, WrittenLaws.{stated_defs}, WrittenTree.{tree_value_of}}

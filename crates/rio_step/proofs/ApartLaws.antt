@@ -5,7 +5,7 @@ use Rattle.std.specs.Cmp.{eq_by_cmp_equiv, Lexicographic.{same_text}}
 use Rattle.std.specs.{FinMap.{contains_key, contains_key-keys, get, get-insert, get-remove, insert, keys, remove}, List.{list_any, slice_index_or}}
 use Rattle.std.specs.{Option.{is_some, option_map_or}, Ordering.{eq_by_cmp}, Str.{bytes_eq}}
 use Rattle.rio_num.specs.Word.{name_order}
-use Rattle.rio_value.specs.declared.value.Value.{Value}
+use Rattle.rio_format.specs.declared.value.Value.{Value}
 use Rattle.rio_machine.proofs.OrderLaws.{items_tie, items_total, names_tie, names_total}
 use Rattle.rio_machine.specs.State.{NameAndCycle, State, Tree, item_order, names_object, names_tree, next_cycle}
 use Rattle.rio_machine.specs.declared.command.Command.{Command, TheVariants.{Bad, Class, Put, Batch, Delete, Tree as MakeTree, Fill, Save, Get, Scan, Ls}}

@@ -3,7 +3,7 @@ use Rattle.std.proofs.Common.{◌≡◌, inl, inr, ℕ, ℤ, pos, List, [], ◌�
 use Rattle.std.proofs.lemmas.Slice.Eq.{bytes_eq-Decides}
 use Rattle.std.specs.{Option.{option_map_or}, Str.{bytes_eq}}
 use Rattle.rio_num.specs.{At.{At}, Reading.{◌>>=◌}, Word.{is_name_text}}
-use Rattle.rio_types.specs.declared.class.Base.{Base}
+use Rattle.rio_format.specs.declared.class.Base.{Base}
 use Rattle.rio_token.specs.Reading.{mark_at, marked, name_at, next_word, num_at, num_between_at, some_if, version_at}
 use Rattle.rio_token.specs.Words.{decimal, num_between_of, num_of, written}
 use Rattle.rio_model.specs.Lexemes.{IsNext, Lexeme, mark, word}

@@ -3,7 +3,7 @@ use Rattle.std.proofs.Common.{◌≡◌, ℕ, ◌+◌, max, List, [], ◌∷◌,
 use Rattle.std.proofs.{lemmas.Map.Views.{tells_apart}, lemmas.Slice.Eq.{bytes_eq-Decides}}
 use Rattle.std.specs.{FinMap.{entries, entries-insert}, FinMap.Entries.{by_order, put}, List.{filter}, Ordering.{is_eq}, Str.{bytes_eq}}
 use Rattle.std.specs.declared.cmp.Ordering.{Ordering, TheVariants.{Less, Equal, Greater}}
-use Rattle.rio_value.specs.{Depth.{greatest}, declared.value.Value.{Value}}
+use Rattle.rio_format.specs.{Depth.{greatest}, declared.value.Value.{Value}}
 use Rattle.rio_machine.proofs.OrderLaws.{items_tie, items_total}
 use Rattle.rio_machine.specs.State.{NameAndCycle, State, item_order, last_cycle, next_cycle}
 use Rattle.rio_machine.specs.declared.command.PutItem.{PutItem}

@@ -2,7 +2,7 @@
 use Rattle.std.proofs.Common.{◌≡◌, ◌≤◌, ℕ, ◌+◌, List, [], ◌∷◌, length, Bool, true, false, cond, not, ◌||◌, Option, None, refl, sym, ap, ◌∙◌, arith}
 use Rattle.std.proofs.lemmas.Bool.{lt-leb, ltb-false, or_parts}
 use Rattle.std.specs.{FinMap.{contains_key, len, len-insert}, List.{list_any}, Prelude.{nat_lt}}
-use Rattle.rio_value.specs.declared.value.Value.{Value}
+use Rattle.rio_format.specs.declared.value.Value.{Value}
 use Rattle.rio_machine.proofs.OrderLaws.{items_total}
 use Rattle.rio_machine.specs.Limits.{batch_limit, cycle_limit, has_all_items, has_long_list, is_too_deep, is_too_long, item_limit, lacks_items}
 use Rattle.rio_machine.specs.State.{State, item_count, names_tree, next_cycle}

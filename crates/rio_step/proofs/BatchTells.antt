@@ -1,7 +1,7 @@
 -- The puts of a batch: what is read, and the first tokens that can't stand.
 use Rattle.std.proofs.Common.{◌≡◌, ℕ, suc, ◌+◌, ◌-◌, ◌<◌, ◌^◌, List, [], ◌∷◌, ◌++◌, length, codes, Bool, refl, sym, ◌∙◌, ap, subst, arith}
 use Rattle.rio_num.specs.{Reading.{◌>>=◌}, Word.{is_item_text}}
-use Rattle.rio_value.specs.declared.value.Value.{Value, Null}
+use Rattle.rio_format.specs.declared.value.Value.{Value, Null}
 use Rattle.rio_token.specs.Reading.{item_at, mark_at, some_at}
 use Rattle.rio_model.specs.{Lexemes.{Lexeme, SpellsFurther, mark, word}, ValueGrammar.{bracket_limit, enclosed_at, value_in_text}, ValueSpelling.{SpellsValue}}
 use Rattle.rio_model.proofs.LexemeLaws.{with_place}

@@ -2,7 +2,7 @@
 use Rattle.std.proofs.{Common.{◌≡◌, ℕ, List, [], ◌∷◌, ◌++◌, codes, Bool, false, Ok, Err, refl, sym, ◌∙◌, ap, subst, arith}, lemmas.Slice.Eq.{bytes_eq-Decides}}
 use Rattle.std.specs.Str.{bytes_eq}
 use Rattle.rio_num.specs.{At.{At}, Reading.{◌>>=◌}, Word.{is_name_text}}
-use Rattle.rio_types.specs.{declared.class.Base.{Base}, declared.class.ClassDef.{ClassDef}, declared.class.Member.{Member}}
+use Rattle.rio_format.specs.{declared.class.Base.{Base}, declared.class.ClassDef.{ClassDef}, declared.class.Member.{Member}}
 use Rattle.rio_token.specs.{declared.fault.TextFault.{TextFault}, Reading.{Read, end_at, keyword_at, list_at, name_at, version_at}}
 use Rattle.rio_model.specs.{ClassGrammar.{bases_at, class_at, class_of, member_at}, ClassSpelling.{SpellsBases, SpellsDeclaration}}
 use Rattle.rio_model.specs.Lexemes.{Lexeme, mark, word}

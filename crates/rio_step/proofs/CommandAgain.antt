@@ -1,9 +1,8 @@
 -- What tokens spell as a command is read as it.
 use Rattle.std.proofs.Common.{◌≡◌, ℕ, ◌-◌, ℤ, pos, List, [], ◌∷◌, codes, true, false, Option, Some, None, Ok, refl, sym, ◌∙◌, ap, subst}
 use Rattle.rio_num.specs.{At.{At}, Reading.{◌>>=◌}, Word.{is_item_text, is_name_text}}
-use Rattle.rio_types.specs.{declared.class.Base.{Base}, declared.class.ClassDef.{ClassDef}}
-use Rattle.rio_value.specs.{declared.value.Value.{Value, out-Value, TheOpen.{Value-F}}, declared.value.Part.{Part}}
-use Rattle.rio_value.specs.declared.value.Value.TheOpen as layer
+use Rattle.rio_format.specs.{declared.class.Base.{Base}, declared.class.ClassDef.{ClassDef}, declared.value.Value.{Value, out-Value, TheOpen.{Value-F}}, declared.value.Part.{Part}}
+use Rattle.rio_format.specs.declared.value.Value.TheOpen as layer
 use Rattle.rio_token.specs.{declared.token.Token.TheVariants.{End}, Reading.{Read, end_at, item_at, marked}, Tokens.{behind, next_at}}
 use Rattle.rio_leaf.specs.declared.branch.BranchDef.{BranchDef}
 use Rattle.rio_model.specs.{Lexemes.{IsNext, Lexeme, Stand, word}, ValueGrammar.{bracket_limit, enclosed_at, value_in_text}, ValueSpelling.{ends_here}}

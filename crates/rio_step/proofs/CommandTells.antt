@@ -1,7 +1,7 @@
 -- Commands: what is read, and the first tokens that can't stand.
 use Rattle.std.proofs.Common.{◌≡◌, ℕ, suc, ◌-◌, ℤ, List, [], ◌∷◌, ◌++◌, codes, true, if◌then◌else◌, Option, None, Ok, refl, sym, ◌∙◌, ap, subst, arith, Bool, false, Err}
 use Rattle.rio_num.specs.{At.{At}, Reading.{◌>>=◌}, Word.{is_item_text}}
-use Rattle.rio_value.specs.declared.value.Value as value
+use Rattle.rio_format.specs.declared.value.Value as value
 use Rattle.rio_leaf.specs.{declared.branch.Shape.TheVariants.{Class as Objects}, declared.branch.BranchDef.{BranchDef}}
 use Rattle.rio_token.specs.{declared.fault.TextFault.{TextFault}, Reading.{Read, bad_at, item_at, mark_at, num_at}, Tokens.{behind}, Words.{num_of}}
 use Rattle.rio_model.specs.{Lexemes.{Lexeme, glued, mark, word}, ValueGrammar.{bracket_limit, enclosed_at, row_at, value_in_text}}

@@ -3,7 +3,7 @@ use Rattle.std.proofs.Common.{if◌then◌else◌, append_assoc, ◌≡◌, ◌�
 use Rattle.std.proofs.{lemmas.Bool.{ltb-false, not-false, not_from_false}, lemmas.List.{append-nil}}
 use Rattle.std.specs.{Prelude.{nat_lt}, List.{fold, list_all, list_any, flat_map}, FinMap.{get, insert, remove}, Option.{option_map_or, option_or}}
 use Rattle.std.specs.{Str.{bytes_eq}, Fmt.{signed_decimal}}
-use Rattle.rio_format.specs.WrittenBytes.{length_limit}
+use Rattle.rio_format.specs.{WrittenBytes.{length_limit}, declared.class.Base.{Base}, declared.class.ClassDef.{ClassDef}}
 use Rattle.rio_machine.specs.State.{State, Tree, names_tree}
 use Rattle.rio_machine.specs.declared.command.Command.{Command, TheVariants.{Bad, Class, Put, Batch, Delete, Tree as MakeTree, Fill, Save, Get, Scan, Ls}}
 use Rattle.rio_machine.specs.declared.refusal.Refusal.{Refusal, TheVariants.{BadName, NoSuchClass as Lacks, SameVersion as Same, HoldsItself as Holds, TooLarge as Large, TooMany as Many}}
@@ -16,7 +16,6 @@ use Rattle.rio_step.proofs.{ApartLaws.{none_at, not_refused}, BatchLaws.{same_cl
 use Rattle.rio_step.specs.Refusing.{FullMark, fill_row, has_bad_name, has_too_many, is_same_version, is_too_large, lacks_class, refusal_of, refusals, with_class, would_hold_itself}
 use Rattle.rio_step.specs.{Statable.{ClassesStayDeclared, is_statable}, Step.{by_refusal, state_behind, step, tree_filled, tree_saved}}
 use Rattle.rio_num.specs.{Printed.{name_text}, Word.{is_name_text}}
-use Rattle.rio_types.specs.{declared.class.Base.{Base}, declared.class.ClassDef.{ClassDef}}
 
 module _ (classes : List ClassDef) where
   abbrev newest : Base → Base

@@ -6,7 +6,7 @@ use Rattle.rio_token.specs.{Reading.{list_at, mark_at, more_at, num_at, num_betw
 use Rattle.rio_token.specs.Words.{decimal, written}
 use Rattle.rio_leaf.specs.{declared.branch.BranchDef.{BranchDef}, declared.branch.Shape.TheVariants.{Leaves, Class as Objects}}
 use Rattle.rio_leaf.specs.{declared.leaf.Dim.{Dim, TheVariants.{One, Fixed, Counted}}, declared.leaf.Leaf.{Leaf}}
-use Rattle.rio_value.specs.declared.value.Value.{Value, Bool as Truth, Null}
+use Rattle.rio_format.specs.declared.value.Value.{Value, Bool as Truth, Null}
 use Rattle.rio_model.specs.ValueGrammar.{class_version_at, enclosed_at, enclosed_by, object_at, part_at, value_in_text, word_value, word_value_at}
 use Rattle.rio_machine.specs.{RefusalText.{refusal_text}, declared.command.Command.TheVariants.{Bad, Batch, Delete, Tree as MakeTree, Save, Get, Scan, Ls}}
 use Rattle.rio_machine.specs.declared.command.PutItem.{PutItem}

@@ -4,7 +4,7 @@ use Rattle.std.proofs.lemmas.Bool.{and_from, and_parts, or_parts}
 use Rattle.std.specs.{Prelude.{is_some}, FinMap.{get, get-empty, insert, remove}, Option.{option_map_or}}
 use Rattle.rio_num.specs.Word.{is_item_text, name_order}
 use Rattle.rio_leaf.specs.{declared.branch.BranchDef.{BranchDef}, Stated.{are_stated_branches}}
-use Rattle.rio_types.specs.declared.class.ClassDef.{ClassDef}
+use Rattle.rio_format.specs.declared.class.ClassDef.{ClassDef}
 use Rattle.rio_machine.specs.Limits.{has_long_entry}
 use Rattle.rio_machine.specs.declared.command.Command.{Command, TheVariants.{Bad, Class, Put, Batch, Delete, Tree as MakeTree, Fill, Save, Get, Scan, Ls}}
 use Rattle.rio_machine.specs.declared.command.PutItem.{PutItem}

@@ -2,9 +2,8 @@
 use Rattle.std.proofs.Common.{◌≡◌, ℕ, zero, suc, ◌+◌, ℤ, List, [], ◌∷◌, ◌++◌, length, Bool, true, false, cond, ◌||◌, ◌&&◌, Option, Some, None, refl, sym, ap, subst, ◌∙◌, arith, length-append}
 use Rattle.std.specs.{Prelude.{is_some}, List.{list_any}, Option.{option_map}, Ordering.{int_eq}, Str.{bytes_eq}}
 use Rattle.rio_num.proofs.Cases.{any_weaker}
-use Rattle.rio_types.specs.{Classes.{find_in, newer_of, newest_in}, declared.class.Base.{Base}, declared.class.ClassDef.{ClassDef}}
-use Rattle.rio_format.specs.declared.form.Form.{Form, TheVariants.{Bare as bare, Numbers as numbers, Headed as headed}}
-use Rattle.rio_format.specs.Bodies.{Body, described, built_in, form_of}
+use Rattle.rio_format.specs.{Classes.{find_in, newer_of, newest_in}, declared.class.Base.{Base}, declared.class.ClassDef.{ClassDef}}
+use Rattle.rio_format.specs.{declared.form.Form.{Form, TheVariants.{Bare as bare, Numbers as numbers, Headed as headed}}, Bodies.{Body, described, built_in, form_of}}
 use Rattle.rio_format.specs.Slots.{Field, body_bases, body_fields, can_be_put, declared_body, derives_from, fields_of, form_fields, has_base, headed_body, is_headed}
 
 or_true : (a b c d : Bool) → (a ≡ true → c ≡ true) → (b ≡ true → d ≡ true) → (a || b) ≡ true → (c || d) ≡ true

@@ -4,9 +4,7 @@ use Rattle.std.proofs.{lemmas.Bool.{and_from, and_parts, not-false}, lemmas.List
 use Rattle.std.specs.{Prelude.{is_some}, FinMap.{get, get-insert, get-remove, insert, remove}, List.{list_all}, Option.{option_map_or}, Ordering.{eq_by_cmp}}
 use Rattle.rio_num.specs.Word.{name_order}
 use Rattle.rio_leaf.specs.declared.branch.BranchDef.{BranchDef}
-use Rattle.rio_types.specs.{declared.class.ClassDef.{ClassDef}, declared.kind.Kind.TheVariants.{Inline}}
-use Rattle.rio_value.specs.declared.value.Value.{Value}
-use Rattle.rio_format.specs.{Bodies.{Counters}, Fits.{Labels, fits, fitting_of}, Slots.{Slot, kinded}}
+use Rattle.rio_format.specs.{declared.class.ClassDef.{ClassDef}, declared.kind.Kind.TheVariants.{Inline}, declared.value.Value.{Value}, Bodies.{Counters}, Fits.{Labels, fits, fitting_of}, Slots.{Slot, kinded}}
 use Rattle.rio_machine.proofs.OrderLaws.{items_total, names_total}
 use Rattle.rio_machine.specs.Rows.{Column, column_slot, columns_fit, columns_of, leaf_numbers_behind, row_fits, stands_in}
 use Rattle.rio_machine.specs.State.{NameAndCycle, Row, State, Tree, item_order, names_tree, next_cycle}

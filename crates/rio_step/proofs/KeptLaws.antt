@@ -3,7 +3,7 @@ use Rattle.std.proofs.{Common.{◌≡◌, ℕ, List, [], ◌∷◌, Bool, true, 
 use Rattle.std.proofs.{lemmas.Map.Views.{tells_apart}, lemmas.Bool.{or_parts}, lemmas.Option.{same_Some}}
 use Rattle.std.specs.{FinMap.{get, get-insert, insert}, Option.{is_some, option_map_or}, Ordering.{eq_by_cmp}}
 use Rattle.rio_num.specs.Word.{name_order}
-use Rattle.rio_value.specs.declared.value.Value.{Value}
+use Rattle.rio_format.specs.declared.value.Value.{Value}
 use Rattle.rio_machine.proofs.OrderLaws.{items_tie, items_total, names_tie, names_total}
 use Rattle.rio_machine.specs.State.{NameAndCycle, Row, State, Tree, item_order, names_object, names_tree, next_cycle}
 use Rattle.rio_machine.specs.declared.command.Command.{Command, TheVariants.{Bad, Class, Put, Batch, Delete, Tree as MakeTree, Fill, Save, Get, Scan, Ls}}

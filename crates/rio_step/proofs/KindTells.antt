@@ -3,10 +3,8 @@ use Rattle.std.proofs.Common.{◌≡◌, inl, inr, ℕ, ◌+◌, ◌<◌, ◌≤
 use Rattle.std.proofs.lemmas.Slice.Eq.{bytes_eq-Decides}
 use Rattle.std.specs.Str.{bytes_eq}
 use Rattle.rio_num.specs.{Reading.{◌>>=◌}, Word.{is_name_text}}
-use Rattle.rio_types.specs.{declared.class.Base.{Base}, declared.class.Member.{Member}}
-use Rattle.rio_types.specs.{declared.kind.Kind.{Kind, TheVariants.{Plain, Fixed, Text, Inline, Pointer}}, declared.kind.Primitive.{Primitive}}
+use Rattle.rio_format.specs.{declared.class.Base.{Base}, declared.class.Member.{Member}, declared.kind.Kind.{Kind, TheVariants.{Plain, Fixed, Text, Inline, Pointer}}, declared.kind.Primitive.{Primitive}, Bodies.{member}}
 use Rattle.rio_token.specs.{Reading.{list_at, mark_at, marked, name_at, next_word, some_at, word_that_at}, Tokens.{behind}, Words.{decimal, written}}
-use Rattle.rio_format.specs.Bodies.{member}
 use Rattle.rio_model.specs.ClassGrammar.{base, base_at, bases_at, dimension_at, dimension_of, is_new_base, is_new_member, kind_at, member_at, plain_at, primitive_at, primitive_of, sized_at}
 use Rattle.rio_model.specs.{ClassSpelling.{SpellsBase, SpellsBases, SpellsKind, SpellsMember}, ClassText.{primitive_text}, Lexemes.{Lexeme, mark, word}}
 use Rattle.rio_model.specs.Stated.{is_class_word}

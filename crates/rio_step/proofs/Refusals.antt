@@ -3,9 +3,7 @@ use Rattle.std.proofs.Common.{◌≡◌, ℕ, pos, List, [], ◌∷◌, Some, No
 use Rattle.std.specs.{Prelude.{codes}, FinMap.{entries-from_sorted, from_sorted, get-from_sorted}}
 use Rattle.rio_num.specs.Word.{name_order}
 use Rattle.rio_leaf.specs.{declared.branch.BranchDef.{BranchDef}, declared.branch.Shape.TheVariants.{Leaves}, declared.leaf.Dim.TheVariants.{One}}
-use Rattle.rio_types.specs.{declared.class.ClassDef.{ClassDef}, declared.kind.Kind.TheVariants.{Pointer, Inline}}
-use Rattle.rio_value.specs.declared.value.Value.{Value, Null}
-use Rattle.rio_format.specs.Bodies.{member}
+use Rattle.rio_format.specs.{declared.class.ClassDef.{ClassDef}, declared.kind.Kind.TheVariants.{Pointer, Inline}, declared.value.Value.{Value, Null}, Bodies.{member}}
 use Rattle.rio_model.specs.Declaring.{reaches}
 use Rattle.rio_machine.specs.State.{NameAndCycle, State, Tree, item_order, next_cycle}
 use Rattle.rio_machine.specs.declared.command.Command.TheVariants.{Class, Put, Batch, Delete, Tree as MakeTree, Fill, Save}

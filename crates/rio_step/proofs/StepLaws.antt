@@ -4,7 +4,7 @@ use Rattle.std.proofs.{lemmas.Cmp.{nat_list_eq_equiv}, lemmas.Map.Views.{tells_a
 use Rattle.std.specs.{Cmp.{eq_by_cmp_equiv}, FinMap.{contains_key-keys, get, get-insert, insert, keys}, List.{filter, list_any}}
 use Rattle.std.specs.{Ordering.{eq_by_cmp}, Str.{bytes_eq}}
 use Rattle.rio_num.proofs.Cases.{none_from}
-use Rattle.rio_value.specs.{Depth.{greatest}, declared.value.Value.{Value}}
+use Rattle.rio_format.specs.{Depth.{greatest}, declared.value.Value.{Value}}
 use Rattle.rio_machine.proofs.OrderLaws.{items_tie, items_total}
 use Rattle.rio_machine.specs.State.{NameAndCycle, State, item_order, next_cycle}
 use Rattle.rio_machine.specs.declared.command.Command.{Command, TheVariants.{Bad, Class, Put, Batch, Delete, Tree as MakeTree, Fill, Save, Get, Scan, Ls}}

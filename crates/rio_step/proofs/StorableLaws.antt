@@ -7,10 +7,7 @@ use Rattle.std.specs.{Option.{option_map_or}, Ordering.{eq_by_cmp}, Str.{bytes_e
 use Rattle.rio_num.specs.Word.{is_item_text, name_order}
 use Rattle.rio_leaf.specs.{declared.branch.BranchDef.{BranchDef}, declared.branch.Shape.{Shape, TheVariants.{Leaves, Class as Objects}}}
 use Rattle.rio_leaf.specs.Stated.{are_stated_branches}
-use Rattle.rio_types.specs.declared.class.ClassDef.{ClassDef}
-use Rattle.rio_value.specs.declared.value.Value.{Value}
-use Rattle.rio_buffer.specs.ReaderState.{no_words}
-use Rattle.rio_format.specs.{Bodies.{Counters}, Fits.{Labels, fits, fitting_of}, Slots.{can_be_put}}
+use Rattle.rio_format.specs.{declared.class.ClassDef.{ClassDef}, declared.value.Value.{Value}, ReaderState.{no_words}, Bodies.{Counters}, Fits.{Labels, fits, fitting_of}, Slots.{can_be_put}}
 use Rattle.rio_machine.specs.Limits.{data_length, has_long_entry, head_length, is_too_long, zeros_behind, cycle_limit, has_long_list, is_too_deep}
 use Rattle.rio_machine.specs.Rows.{Column, column_slot, columns_bytes, columns_fit, columns_of, entries_from, leaf_numbers_after, leaf_numbers_behind, row_fits, shape_columns, stands_in}
 use Rattle.rio_machine.specs.declared.command.Command.{Command, TheVariants.{Bad, Class, Put, Batch, Delete, Tree as MakeTree, Fill, Save, Get, Scan, Ls}}

@@ -1,7 +1,7 @@
 -- Values and rows in a command: what is read, and the first tokens that can't stand.
 use Rattle.std.proofs.Common.{ℕ, suc, List, [], ◌∷◌, ◌++◌, Bool, codes, refl, sym, subst}
 use Rattle.rio_num.specs.At.{At}
-use Rattle.rio_value.specs.{declared.value.Value.{Value, Null, out-Value, TheOpen.{Value-F}, TheVariants.{outs-Null}}, declared.value.Part.{Part}}
+use Rattle.rio_format.specs.{declared.value.Value.{Value, Null, out-Value, TheOpen.{Value-F}, TheVariants.{outs-Null}}, declared.value.Part.{Part}}
 use Rattle.rio_token.specs.{declared.fault.TextFault.{TextFault}, Reading.{Read}}
 use Rattle.rio_model.specs.{Lexemes.{Lexeme, SpellsFurther, word}, ToldPlaces.{Begin}, ValueGrammar.{enclosed_at, value_in_text, values_at}}
 use Rattle.rio_model.specs.ValueSpelling.{SpellsLayer, SpellsRow, SpellsValue, SpellsWithin}

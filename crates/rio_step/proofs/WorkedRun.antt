@@ -5,9 +5,7 @@ use Rattle.std.specs.Prelude.{codes, nat_le, nat_lt, unwrap_or, is_some}
 use Rattle.std.specs.FinMap.{empty, entries, entries-from_sorted, entries-insert, find, from_entries, from_sorted, get, get-empty, get-from_sorted, get-remove, insert, is_sorted, len-empty, len-entries, put, remove, same_entries_map, same_map}
 use Rattle.std.specs.{Ordering.{eq_by_cmp}, Fmt.{digits}}
 use Rattle.rio_format.proofs.ValueCases.{fold_Int, fold_Object, fold_Text}
-use Rattle.rio_format.specs.{Bodies.{part}, Fits.{fits, fitting_step}, Slots.{kinded}, Written.{Writing, writing_of, writing_step, written_form}}
-use Rattle.rio_buffer.specs.ReaderState.{no_words}
-use Rattle.rio_types.specs.declared.kind.Kind.TheVariants.{Inline}
+use Rattle.rio_format.specs.{Bodies.{part}, Fits.{fits, fitting_step}, Slots.{kinded}, Written.{Writing, writing_of, writing_step, written_form}, ReaderState.{no_words}, declared.kind.Kind.TheVariants.{Inline}}
 use Rattle.rio_machine.specs.Limits.{cycle_limit, has_all_items, item_limit}
 use Rattle.rio_machine.specs.State.{NameAndCycle, State, Tree, empty_state, item_order, names_tree, next_cycle}
 use Rattle.rio_machine.specs.declared.command.Command.{Command, TheVariants.{Put, Delete, Ls}}
@@ -17,9 +15,9 @@ use Rattle.rio_step.specs.{ReplyText.{text_of}, Runs.{said_of}}
 use Rattle.rio_num.specs.{Printed.{name_text}, Word.{name_order}}
 use Rattle.rio_machine.proofs.OrderLaws.{items_tie, items_total, same_state}
 use Rattle.rio_model.specs.Resolving.{part_resolved, resolved, resolving_step}
-use Rattle.rio_value.specs.{Depth.{depth_of, depth_step}, LongestList.{longest_list_of, longest_step}, declared.value.Part.{Part, Part-F}}
-use Rattle.rio_value.specs.declared.value.Value.{Value, Int, Object, Text, out-roll-Value, TheVariants.{rolls-Object}, TheOpen.{Value-F}, TheFolds.{fold-Value, fold_out-Part}}
-use Rattle.rio_value.specs.declared.value.Value.TheOpen as layer
+use Rattle.rio_format.specs.{Depth.{depth_of, depth_step}, LongestList.{longest_list_of, longest_step}, declared.value.Part.{Part, Part-F}}
+use Rattle.rio_format.specs.declared.value.Value.{Value, Int, Object, Text, out-roll-Value, TheVariants.{rolls-Object}, TheOpen.{Value-F}, TheFolds.{fold-Value, fold_out-Part}}
+use Rattle.rio_format.specs.declared.value.Value.TheOpen as layer
 
 -- an object, by what is known of its parts
 object_folds : {A A' : Type 0} (step : Value-F A A' → A) (step' : Part-F A A' → A') (class : List ℕ) (version : ℤ) (parts : List Part)

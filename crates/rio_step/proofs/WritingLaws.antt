@@ -1,18 +1,14 @@
 -- What is written for a value that fits is the same with one class more.
 use Rattle.std.proofs.Common.{◌≡◌, ℕ, suc, ◌+◌, ℤ, pos, negsuc, List, [], ◌∷◌, ◌++◌, length, map, Bool, true, false, cond, ◌&&◌, ◌==◌, Option, Some, None, refl, sym, ap, subst, ◌∙◌}
 use Rattle.std.specs.{Prelude.{slice_get, if◌then◌else◌, codes}, Map.{lookup}, Str.{bytes_eq}, Ordering.{int_eq}}
-use Rattle.rio_types.specs.declared.class.ClassDef.{ClassDef}
-use Rattle.rio_types.specs.declared.kind.Kind.TheVariants.{Plain, Counter, Fixed, Counted, Text as Texted, Inline, Pointer, Other}
-use Rattle.rio_types.specs.declared.kind.Primitive.{Primitive, TheVariants.{U32, I32}}
+use Rattle.rio_format.specs.{declared.class.ClassDef.{ClassDef}, declared.kind.Kind.TheVariants.{Plain, Counter, Fixed, Counted, Text as Texted, Inline, Pointer, Other}}
+use Rattle.rio_format.specs.{declared.kind.Primitive.{Primitive, TheVariants.{U32, I32}}, declared.value.Part.{Part}}
 use Rattle.byteorder.specs.Endian.{big_bytes}
 use Rattle.rio_num.proofs.Cases.{if_some, some_of}
-use Rattle.rio_value.specs.declared.value.Part.{Part}
-use Rattle.rio_value.specs.declared.value.Value.{Value, Int, Bits32, Bits64, Bool as Truth, Text, List as Items, Object, Pointed, Null, Back, Opaque}
+use Rattle.rio_format.specs.{declared.value.Value.{Value, Int, Bits32, Bits64, Bool as Truth, Text, List as Items, Object, Pointed, Null, Back, Opaque}, ReaderState.{no_words}, Writer.{class_bytes}}
 use Rattle.rio_format.proofs.ValueCases.{Each, by_cases, fold_Int, fold_Bits32, fold_Bits64, fold_Bool, fold_Text, fold_List, fold_Pointed, fold_Null, fold_Back, fold_Opaque}
 use Rattle.rio_format.proofs.{WrittenValues.{fit_object, write_object}, WrittenPointers.{inline_class}}
-use Rattle.rio_buffer.specs.{ReaderState.{no_words}, Writer.{class_bytes}}
-use Rattle.rio_format.specs.declared.form.Form.{Form, TheVariants.{Bare as bare, Numbers as numbers, Headed as headed}}
-use Rattle.rio_format.specs.Bodies.{Body, Counters, described, listed, arrayed, opaque, form_of, t_object_base}
+use Rattle.rio_format.specs.{declared.form.Form.{Form, TheVariants.{Bare as bare, Numbers as numbers, Headed as headed}}, Bodies.{Body, Counters, described, listed, arrayed, opaque, form_of, t_object_base}}
 use Rattle.rio_format.specs.Fits.{Fitting, Labels, all_fit, back_fits, fits, may_point, pointed_fits, counted_slot, counted_so_far, fields_fit, fitting_of, fitting_step, fixed_by, int_fits, link_fits, list_fits, object_may_stand, parts_fit, pass}
 use Rattle.rio_format.specs.Slots.{Field, base_field, body_fields, declared_body, field, form_fields, member_field, Slot, kinded, based, flags, any_pointer, link, many}
 use Rattle.rio_format.specs.Written.{Writing, all, number_array_bytes, arrayed_bytes, bare_bytes, body_bytes, both, form_bytes, headed_bytes, listed_bytes, counted_bytes, fields_bytes, just, link_bytes, list_bytes, counted, labelled, pointed_bytes, written_form, writing_of, writing_step}

@@ -2,7 +2,7 @@
 -- tokens, and in its value.
 use Rattle.std.specs.Prelude.{◌≡◌, ℕ, ◌-◌, ℤ, pos, List, [], ◌∷◌, ◌++◌, codes, Option, Some, None, true, not, ◌&&◌}
 use Rattle.rio_num.specs.Word.{is_item_text, is_name_text}
-use Rattle.rio_types.specs.declared.class.Base.{Base}
+use Rattle.rio_format.specs.declared.class.Base.{Base}
 use Rattle.rio_token.specs.{Marks.{closing_brace, closing_bracket, colon, equals_sign, number_sign, opening_brace, opening_bracket, semicolon, slash}, Words.{num_between_of, num_of}}
 use Rattle.rio_leaf.specs.{declared.branch.BranchDef.{BranchDef}, declared.branch.Shape.{Shape, TheVariants.{Leaves, Class as Objects}}}
 use Rattle.rio_leaf.specs.{declared.leaf.Dim.{Dim, TheVariants.{One, Fixed, Counted}}, declared.leaf.Leaf.{Leaf}}

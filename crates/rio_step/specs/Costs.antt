@@ -1,9 +1,7 @@
 -- What commands may cost of a file's room, by the state alone; and whether there is room for all commands of a run.
 use Rattle.std.specs.{Prelude.{◌≤◌, ℕ, ◌+◌, ◌*◌, List, [], ◌∷◌, length, ◌==◌, is_some, if◌then◌else◌, None}, FinMap.{get}, List.{sum_by}}
 use Rattle.std.specs.Option.{option_map_or}
-use Rattle.rio_types.specs.declared.class.ClassDef.{ClassDef}
-use Rattle.rio_value.specs.declared.value.Value.{Value}
-use Rattle.rio_format.specs.{Written.{written_form}, WrittenBytes.{written_list}}
+use Rattle.rio_format.specs.{declared.class.ClassDef.{ClassDef}, declared.value.Value.{Value}, Written.{written_form}, WrittenBytes.{written_list}}
 use Rattle.rio_machine.specs.{Rows.{entries_of}, State.{Row, State, Tree}}
 use Rattle.rio_tree.specs.HeaderLength.{header_size}
 use Rattle.rio_machine.specs.declared.command.Command.{Command, TheVariants.{Bad, Class, Put, Batch, Delete, Tree as MakeTree, Fill, Save, Get, Scan, Ls}}

@@ -1,9 +1,7 @@
 -- Laws of steps and of runs.
 use Rattle.std.specs.Prelude.{◌≡◌, ◌≢◌, ◌<◌, ◌≤◌, ◌⊎◌, ℕ, ◌+◌, ◌-◌, List, [], ◌∷◌, ◌++◌, drop, length, slice_get, take, Option, Some, None, IsSome, Bool, true, false}
 use Rattle.std.specs.{declared.cmp.Ordering.{Ordering}, FinMap.{FinMap, get}, List.{last_or, list_all}, Option.{IsSomeAnd, option_map}}
-use Rattle.rio_types.specs.declared.class.ClassDef.{ClassDef}
-use Rattle.rio_value.specs.declared.value.Value.{Value}
-use Rattle.rio_format.specs.{Fits.{fits}, Written.{written_form}}
+use Rattle.rio_format.specs.{declared.class.ClassDef.{ClassDef}, declared.value.Value.{Value}, Fits.{fits}, Written.{written_form}}
 use Rattle.rio_machine.specs.{RefusalText.{refusal_number}, Rows.{row_fits}, State.{NameAndCycle, Row, State, Tree, names_object, names_tree, next_cycle}}
 use Rattle.rio_machine.specs.{declared.command.Command.{Command, TheVariants.{Put, Batch, Delete}}, declared.command.PutItem.{PutItem}, declared.refusal.Refusal.{Refusal}}
 use Rattle.rio_step.specs.{Refusing.{FullMark, is_fit, items_put, refusal_of, refusals, put_value, rows_of_tree}, ReplyText.{text_of}}

@@ -2,8 +2,7 @@
 use Rattle.std.specs.Prelude.{ℕ, List, [], ◌∷◌, ◌++◌, length, codes, Bool, false, ◌==◌, ◌+◌, ◌&&◌, ◌||◌, not, nat_lt, nat_le, Option, Some, None, is_some, unwrap_or, option_and_then, Ok, Err, ℤ, if◌then◌else◌}
 use Rattle.std.specs.{FinMap.{contains_key, get}, List.{filter, list_any}, Option.{option_map, option_map_or, option_or}, Str.{bytes_eq}}
 use Rattle.rio_num.specs.Reading.{◌>>=◌}
-use Rattle.rio_types.specs.{Classes.{find_in}, declared.class.Base.{Base}, declared.class.ClassDef.{ClassDef}}
-use Rattle.rio_value.specs.{declared.value.Value.{Value, out-Value, TheOpen.{Value-F, Object}}, declared.value.Part.{Part}}
+use Rattle.rio_format.specs.{Classes.{find_in}, declared.class.Base.{Base}, declared.class.ClassDef.{ClassDef}, declared.value.Value.{Value, out-Value, TheOpen.{Value-F, Object}}, declared.value.Part.{Part}}
 use Rattle.rio_format.specs.{Fits.{fits}, Slots.{can_be_put}, WrittenBytes.{written_list}}
 use Rattle.rio_model.specs.Declaring.{class_limit, declared, holds_itself, is_declared, is_reserved_name, knows_all, shape_lacks_class}
 use Rattle.rio_model.specs.Resolving.{is_known_version, resolved, resolved_row}

@@ -1,7 +1,7 @@
 -- Replies as they are said: lines.
 use Rattle.std.specs.{Prelude.{ℕ, ◌+◌, List, [], ◌∷◌, ◌++◌, codes, length}, Fmt.{decimal, signed_decimal}, List.{flat_map}}
 use Rattle.rio_num.specs.Printed.{item_text, name_text, numbered}
-use Rattle.rio_value.specs.declared.value.Value as value
+use Rattle.rio_format.specs.declared.value.Value as value
 use Rattle.rio_model.specs.ValueText.{text_of_value}
 use Rattle.rio_machine.specs.{RefusalText.{refusal_text}, State.{NameAndCycle, Row}}
 use Rattle.rio_step.specs.Step.{Listed, object_listed, tree_listed, Reply, class_declared, object_put, objects_put, item_deleted, tree_made, row_added, rows_saved, object_told, rows_told, items_listed, refused}

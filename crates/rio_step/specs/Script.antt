@@ -5,7 +5,7 @@ use Rattle.std.specs.{List.{filter}, Option.{option_map_or}, Str.{bytes_eq, Line
 use Rattle.rio_num.specs.{At.{At}, Reading.{◌>>=◌}}
 use Rattle.rio_token.specs.{declared.fault.TextFault.TheVariants.{BadText, NoMemory}, Marks.{closing_brace, number_sign, opening_brace, semicolon}}
 use Rattle.rio_token.specs.{Reading.{Read, bad_at, end_at, item_at, mark_at, marked, name_at, next_word, num_at, some_at, version_at}, Tokens.{behind, standing_in}}
-use Rattle.rio_types.specs.declared.class.Base.{Base}
+use Rattle.rio_format.specs.declared.class.Base.{Base}
 use Rattle.rio_model.specs.{ClassGrammar.{class_at}, ValueGrammar.{bracket_limit, enclosed_at, row_at, value_in_text}}
 use Rattle.rio_machine.specs.declared.command.Command.{Command, TheVariants.{Bad, Class, Put, Batch, Delete, Tree as MakeTree, Fill, Save, Get, Scan, Ls}}
 use Rattle.rio_machine.specs.declared.command.PutItem.{PutItem}

@@ -2,8 +2,7 @@
 use Rattle.std.specs.Prelude.{ℕ, ◌+◌, List, [], ◌∷◌, ◌++◌, length, map, Option, Some, None, unwrap_or, ℤ, Ok, Err, if◌then◌else◌}
 use Rattle.std.specs.{FinMap.{entries, from_entries, get, insert, remove}, Option.{option_map_or}}
 use Rattle.rio_leaf.specs.declared.branch.BranchDef.{BranchDef}
-use Rattle.rio_types.specs.declared.class.Base.{Base}
-use Rattle.rio_value.specs.declared.value.Value.{Value, Null}
+use Rattle.rio_format.specs.{declared.class.Base.{Base}, declared.value.Value.{Value, Null}}
 use Rattle.rio_machine.specs.State.{NameAndCycle, Row, State, Tree, item_order, names_tree, next_cycle}
 use Rattle.rio_machine.specs.declared.command.Command.{Command, TheVariants.{Bad, Class, Put, Batch, Delete, Tree as MakeTree, Fill, Save, Get, Scan, Ls}}
 use Rattle.rio_machine.specs.declared.command.PutItem.{PutItem}

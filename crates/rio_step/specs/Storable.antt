@@ -2,8 +2,7 @@
 use Rattle.std.specs.{Prelude.{◌≡◌, ◌≤◌, ℕ, List, Option, Bool, true, false, not, ◌&&◌, Some}, FinMap.{get}, List.{list_all, list_any}}
 use Rattle.rio_num.specs.Word.{is_item_text}
 use Rattle.rio_leaf.specs.{Stated.{are_stated_branches}, declared.branch.BranchDef.{BranchDef}}
-use Rattle.rio_types.specs.declared.class.ClassDef.{ClassDef}
-use Rattle.rio_value.specs.declared.value.Value.{Value}
+use Rattle.rio_format.specs.{declared.class.ClassDef.{ClassDef}, declared.value.Value.{Value}}
 use Rattle.rio_model.specs.{Declaring.{shape_lacks_class}, StateClasses.{StateClasses}}
 use Rattle.rio_machine.specs.{Limits.{cycle_limit, has_long_entry, has_long_list, has_many_branches, is_too_deep, is_too_long}, Rows.{row_fits}}
 use Rattle.rio_machine.specs.{State.{NameAndCycle, Row, State, Tree, empty_state}, declared.command.Command.{Command}}

@@ -1,9 +1,8 @@
 -- The headers of two trees, part for part.
 use Rattle.std.proofs.Common.{◌≡◌, ℕ, pos, List, [], ◌∷◌, Bool, true, false, None, refl}
 use Rattle.std.specs.Prelude.{codes}
-use Rattle.rio_format.specs.WrittenList.{array_object, plain_object, titled_object}
+use Rattle.rio_format.specs.{WrittenList.{array_object, plain_object, titled_object}, declared.value.Part.{Part}, declared.value.Value.{Value, Int, Bool as Truth, Text, List as Items, Object, Pointed, Null, Back}}
 use Rattle.rio_leaf.specs.{declared.branch.Shape.TheVariants.{Leaves}, declared.leaf.Dim.{Dim, TheVariants.{One, Counted}}, declared.leaf.Leaf.{Leaf}}
-use Rattle.rio_value.specs.{declared.value.Part.{Part}, declared.value.Value.{Value, Int, Bool as Truth, Text, List as Items, Object, Pointed, Null, Back}}
 use Rattle.rio_tree.specs.{declared.basket_at.BasketAt.{BasketAt}, declared.head.Branch.{Branch}, declared.head.TreeHead.{TreeHead}}
 use Rattle.rio_tree.specs.WrittenTree.{backs_from, basket_numbers, branch_object, branch_pointers, labels_behind, leaf_backs, leaf_object, leaf_pointers, plain_branch_object, plain_leaf_object, tree_value_of}
 

@@ -4,12 +4,9 @@ use Rattle.std.proofs.{lemmas.List.{length-append, Sums.{sum_by-cons}}}
 use Rattle.std.specs.{Prelude.{Bool, if◌then◌else◌}, List.{sum_by}, Int.{w16, w32, cast_unsigned}}
 use Rattle.byteorder.specs.{Endian.{big_bytes}, Numbers.{length-bytes_high_first}}
 use Rattle.rio_leaf.specs.{declared.branch.Shape.{Shape, TheVariants.{Leaves, Class}}}
-use Rattle.rio_types.specs.declared.kind.Kind.TheVariants.{Plain, Counter, Fixed, Counted, Text as Texted, Inline, Pointer, Other}
-use Rattle.rio_types.specs.declared.kind.Primitive.{Primitive, TheVariants.{I32, I64}}
-use Rattle.rio_value.specs.declared.value.Value.{Value, Int, Text, List as Items, Object, Pointed}
-use Rattle.rio_value.specs.declared.value.Part.{Part}
-use Rattle.rio_value.specs.declared.value.Value.TheOpen as layer
-use Rattle.rio_buffer.specs.{ReaderState.{WordsMet, no_words, with_label}, Writer.{Writer, class_bytes}}
+use Rattle.rio_format.specs.{declared.kind.Kind.TheVariants.{Plain, Counter, Fixed, Counted, Text as Texted, Inline, Pointer, Other}, declared.kind.Primitive.{Primitive, TheVariants.{I32, I64}}}
+use Rattle.rio_format.specs.{declared.value.Value.{Value, Int, Text, List as Items, Object, Pointed}, declared.value.Part.{Part}, ReaderState.{WordsMet, no_words, with_label}, Writer.{Writer, class_bytes}}
+use Rattle.rio_format.specs.declared.value.Value.TheOpen as layer
 use Rattle.rio_format.specs.{Bodies.{form_of, part}, Prims.{width_of}, Slots.{Field, Slot, any_pointer, based, described_fields, flags, kinded, link, many}}
 use Rattle.rio_format.specs.{TreeClasses.{branch_class, branch_members, object_branch_class, object_branch_members, tree_class, tree_classes, tree_members}, WrittenList.{array_object, number_part, plain_object, titled_object}}
 use Rattle.rio_format.specs.Written.{Writing, all, both, counted, counted_bytes, fields_bytes, form_bytes, headed_bytes, int_bytes, just, labelled, pointed_bytes, width_in_bits, writing_of, writing_step}

@@ -3,9 +3,9 @@ use Rattle.std.proofs.Common.{◌≡◌, ℕ, ◌+◌, ◌<◌, ◌≤◌, ℤ, 
 use Rattle.std.proofs.lemmas.List.{at_drop_all, at_drop_more}
 use Rattle.std.specs.{List.{flat_map}, Map.{lookup}, Option.{option_or}}
 use Rattle.rio_num.proofs.Cases.{or_none}
-use Rattle.rio_value.specs.declared.value.Part.{Part}
-use Rattle.rio_value.specs.declared.value.Value.{Value, List as Items, Object, Pointed, out-Value, roll-Value, roll-out-Value, TheVariants.{rolls-List, rolls-Object, rolls-Pointed}, TheOpen.{Value-F}, TheFolds.{para-Part, para-roll-Value, para-roll-Part}, TheViews.{out-Part, roll-out-Part}}
-use Rattle.rio_value.specs.declared.value.Value.TheOpen as layer
+use Rattle.rio_format.specs.declared.value.Part.{Part}
+use Rattle.rio_format.specs.declared.value.Value.{Value, List as Items, Object, Pointed, out-Value, roll-Value, roll-out-Value, TheVariants.{rolls-List, rolls-Object, rolls-Pointed}, TheOpen.{Value-F}, TheFolds.{para-Part, para-roll-Value, para-roll-Part}, TheViews.{out-Part, roll-out-Part}}
+use Rattle.rio_format.specs.declared.value.Value.TheOpen as layer
 use Rattle.rio_tree.specs.Labels.{ObjectLabels, labelled_in, labelled_step, or_labelled}
 
 -- ---- one layer

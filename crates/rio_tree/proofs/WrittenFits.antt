@@ -7,12 +7,10 @@ use Rattle.rio_leaf.specs.{declared.branch.Shape.{Shape, TheVariants.{Leaves, Cl
 use Rattle.rio_leaf.specs.{declared.leaf.Dim.{Dim, TheVariants.{One, Fixed, Counted}}, declared.branch.BranchDef.{BranchDef}}
 use Rattle.rio_leaf.specs.Leaves.{has_counting_leaf, has_leaf, is_dim, is_letter_of}
 use Rattle.rio_num.specs.Word.{is_name_text}
-use Rattle.rio_types.specs.{declared.kind.Kind.TheVariants.{Plain, Fixed as FixedArray, Inline}, declared.kind.Primitive.{Primitive, TheVariants.{I32, I64}}}
-use Rattle.rio_value.specs.declared.value.Value.{Value, Int, Text, Object, Pointed}
+use Rattle.rio_format.specs.{declared.kind.Kind.TheVariants.{Plain, Fixed as FixedArray, Inline}, declared.kind.Primitive.{Primitive, TheVariants.{I32, I64}}, declared.value.Value.{Value, Int, Text, Object, Pointed}}
 use Rattle.rio_format.specs.{Bodies.{part}, Fits.{Labels, Fitting, all_fit, fits_prim, fits_signed, fitting_of, fitting_step, object_may_stand}}
 use Rattle.rio_format.specs.{Slots.{Slot, kinded, based, any_pointer}, TreeClasses.{tree_classes, tree_members, branch_members, object_branch_members}}
-use Rattle.rio_format.proofs.ValueCases.{Each, fold_Int, fold_List}
-use Rattle.rio_format.proofs.{WrittenParts.{FitsIn, array_fits, int_fits, pointer_to, text_fits, titled_fits}, WrittenValues.{fit_object}}
+use Rattle.rio_format.proofs.{ValueCases.{Each, fold_Int, fold_List}, WrittenParts.{FitsIn, array_fits, int_fits, pointer_to, text_fits, titled_fits}, WrittenValues.{fit_object}}
 use Rattle.rio_tree.specs.{declared.basket_at.BasketAt.{BasketAt}, declared.head.Branch.{Branch}, declared.head.TreeHead.{TreeHead}, Header.{branch_leaves}}
 use Rattle.rio_tree.specs.WrittenLaws.{WrittenTreeFits, basket_fits_header, branch_fits_header, stated_defs}
 use Rattle.rio_tree.specs.WrittenTree.{LeafLabels, backs_from, basket_numbers, branch_label_count, branch_object, branch_pointers, labels_behind, leaf_backs, leaf_pointers, plain_branch_object, shaped_object, title_of_branch, tree_value_of, written_count}

@@ -3,12 +3,9 @@ use Rattle.std.proofs.{Common.{◌≡◌, ◌∙◌, ◌^◌, ℕ, zero, suc, �
 use Rattle.std.proofs.lemmas.List.{length-append}
 use Rattle.std.specs.{List.{list_all}, Map.{lookup}, Prelude.{slice_get}, Str.{bytes_eq}}
 use Rattle.rio_leaf.specs.{Spelling.{text_of_dim}, declared.leaf.Dim.{Dim, TheVariants.{One, Fixed, Counted}}, declared.leaf.Leaf.{Leaf}}
-use Rattle.rio_types.specs.{declared.kind.Kind.TheVariants.{Inline, Pointer}, declared.kind.Primitive.TheVariants.{I32}}
-use Rattle.rio_value.specs.declared.value.Value.{Value, Pointed, Null, Back}
-use Rattle.rio_format.specs.{Bodies.{part}, Fits.{Labels, all_fit, fits_signed, fitting_of, fitting_step, may_point}}
-use Rattle.rio_format.specs.{Slots.{Slot, kinded, based, any_pointer, has_base}, TreeClasses.{tree_classes, leaf_members}}
-use Rattle.rio_format.proofs.{ValueCases.{fold_Back, fold_Null}, WrittenParts.{FitsIn, int_fits, pointer_fits, titled_fits, truth_fits}}
-use Rattle.rio_format.proofs.WrittenValues.{fit_object, object_fitting}
+use Rattle.rio_format.specs.{declared.kind.Kind.TheVariants.{Inline, Pointer}, declared.kind.Primitive.TheVariants.{I32}, declared.value.Value.{Value, Pointed, Null, Back}}
+use Rattle.rio_format.specs.{Bodies.{part}, Fits.{Labels, all_fit, fits_signed, fitting_of, fitting_step, may_point}, Slots.{Slot, kinded, based, any_pointer, has_base}, TreeClasses.{tree_classes, leaf_members}}
+use Rattle.rio_format.proofs.{ValueCases.{fold_Back, fold_Null}, WrittenParts.{FitsIn, int_fits, pointer_fits, titled_fits, truth_fits}, WrittenValues.{fit_object, object_fitting}}
 use Rattle.rio_tree.specs.WrittenTree.{LeafLabels, back_or_null, class_of_letter, counter_pointer, is_letter_among, is_unsigned_letter, labels_behind, leaf_object, leaf_pointers, plain_leaf_object, width_of_letter, written_count}
 
 -- ---- by the class of a leaf

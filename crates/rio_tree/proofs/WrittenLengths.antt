@@ -4,14 +4,10 @@ use Rattle.std.proofs.{lemmas.Bool.{ne_eqb}, lemmas.List.{length-append}}
 use Rattle.std.specs.{List.{find, list_any}, Prelude.{slice_index}, Int.{w16, cast_unsigned}, Str.{bytes_eq}}
 use Rattle.byteorder.specs.{Endian.{big_bytes}, Numbers.{length-bytes_high_first}}
 use Rattle.indexmap.specs.IndexMap.{insert_entry}
-use Rattle.rio_types.specs.declared.class.ClassDef.{ClassDef}
-use Rattle.rio_types.specs.declared.kind.Kind.TheVariants.{Plain, Counter, Fixed, Counted, Text as Texted, Inline, Pointer, Other}
-use Rattle.rio_types.specs.declared.kind.Primitive.{Primitive, TheVariants.{I32, U16, U32}}
-use Rattle.rio_value.specs.declared.value.Value.{Value, Int, Bits32, Bits64, Bool as Truth, Text, List as Items, Object, Pointed, Null, Back, Opaque}
-use Rattle.rio_value.specs.declared.value.Part.{Part}
-use Rattle.rio_buffer.specs.{ReaderState.{WordsMet, no_words, with_label, with_name}, Writer.{Writer, class_by, class_bytes}}
-use Rattle.rio_format.specs.declared.form.Form.{Form, TheVariants.{Bare as bare, Numbers as numbers, Headed as headed}}
-use Rattle.rio_format.specs.Bodies.{Body, described, form_of, listed, arrayed, opaque}
+use Rattle.rio_format.specs.{declared.class.ClassDef.{ClassDef}, declared.kind.Kind.TheVariants.{Plain, Counter, Fixed, Counted, Text as Texted, Inline, Pointer, Other}}
+use Rattle.rio_format.specs.{declared.kind.Primitive.{Primitive, TheVariants.{I32, U16, U32}}, declared.value.Value.{Value, Int, Bits32, Bits64, Bool as Truth, Text, List as Items, Object, Pointed, Null, Back, Opaque}}
+use Rattle.rio_format.specs.{declared.value.Part.{Part}, ReaderState.{WordsMet, no_words, with_label, with_name}, Writer.{Writer, class_by, class_bytes}}
+use Rattle.rio_format.specs.{declared.form.Form.{Form, TheVariants.{Bare as bare, Numbers as numbers, Headed as headed}}, Bodies.{Body, described, form_of, listed, arrayed, opaque}}
 use Rattle.rio_format.specs.Slots.{Field, Slot, any_pointer, based, body_fields, declared_body, flags, kinded, link, many}
 use Rattle.rio_format.specs.Written.{Writing, all, number_array_bytes, arrayed_bytes, bare_bytes, body_bytes, both, counted, counted_bytes, described_bytes, fields_bytes, form_bytes, headed_bytes, just, labelled, link_bytes, list_bytes, listed_bytes, pointed_bytes, writing_of, writing_step, written_form}
 use Rattle.rio_format.proofs.ValueCases.{Each, by_cases, fold_Int, fold_Bits32, fold_Bits64, fold_Bool, fold_Text, fold_List, fold_Pointed, fold_Null, fold_Back, fold_Opaque}

@@ -2,11 +2,10 @@
 use Rattle.std.proofs.Common.{◌≡◌, ◌∙◌, ℕ, ◌+◌, ℤ, pos, true, List, [], ◌∷◌, ◌++◌, map, codes, Some, refl, ap, sym, append-nil}
 use Rattle.std.specs.List.{flat_map, list_all}
 use Rattle.rio_leaf.specs.declared.leaf.Leaf.{Leaf}
-use Rattle.rio_value.specs.declared.value.Part.{Part, out-Part, roll-out-Part}
-use Rattle.rio_value.specs.declared.value.Value.{Value, Text, Object, TheVariants.{rolls-Object, outs-List, outs-Object, outs-Pointed}, TheFolds.{para-Part, para-roll-Part, para-roll-Value}}
-use Rattle.rio_value.specs.PartsWithBases.{kept_parts, parts_of_base, parts_step, parts_with_bases}
-use Rattle.rio_value.specs.declared.value.Value.TheOpen as layer
-use Rattle.rio_format.specs.{Bodies.{part}, WrittenList.{array_object, plain_object, titled_object}}
+use Rattle.rio_format.specs.declared.value.Part.{Part, out-Part, roll-out-Part}
+use Rattle.rio_format.specs.declared.value.Value.{Value, Text, Object, TheVariants.{rolls-Object, outs-List, outs-Object, outs-Pointed}, TheFolds.{para-Part, para-roll-Part, para-roll-Value}}
+use Rattle.rio_format.specs.{PartsWithBases.{kept_parts, parts_of_base, parts_step, parts_with_bases}, Bodies.{part}, WrittenList.{array_object, plain_object, titled_object}}
+use Rattle.rio_format.specs.declared.value.Value.TheOpen as layer
 use Rattle.rio_tree.specs.{declared.head.Branch.{Branch}, Header.{branch_leaves}, Members.{is_pointer, pointers_in}}
 use Rattle.rio_tree.specs.WrittenTree.{LeafLabels, branch_label_count, branch_object, branch_pointers, labels_behind, leaf_object, leaf_pointers}
 

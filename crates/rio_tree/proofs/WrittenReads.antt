@@ -7,7 +7,7 @@ use Rattle.rio_num.specs.{Reading.{◌>>=◌}, Word.{is_name_text}}
 use Rattle.rio_leaf.specs.{Leaves.{can_count, has_counting_leaf, has_leaf}, Marks.{is_leaf_letter}}
 use Rattle.rio_leaf.specs.Stated.{all_leaves, are_branches_behind, are_stated_leaves, has_branch, is_stated_branch, is_stated_leaf, is_stated_shape, leaves_of}
 use Rattle.rio_leaf.specs.{declared.branch.BranchDef.{BranchDef}, declared.branch.Shape.{Shape, TheVariants.{Leaves, Class}}, declared.leaf.Leaf.{Leaf}}
-use Rattle.rio_value.specs.{declared.value.Value.{Int, Pointed, TheVariants.{outs-Int, outs-Pointed}}, PartsWithBases.{parts_with_bases}}
+use Rattle.rio_format.specs.{declared.value.Value.{Int, Pointed, TheVariants.{outs-Int, outs-Pointed}}, PartsWithBases.{parts_with_bases}}
 use Rattle.rio_format.specs.{Fits.{fits_signed}, Bodies.{part}, WrittenList.{array_object, number_part, titled_object}}
 use Rattle.rio_format.proofs.ValueCases.{Each}
 use Rattle.rio_tree.specs.{declared.basket_at.BasketAt.{BasketAt}, declared.head.Branch.{Branch}, declared.head.TreeHead.{TreeHead}}

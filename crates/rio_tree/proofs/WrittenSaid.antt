@@ -4,10 +4,8 @@ use Rattle.std.proofs.lemmas.Bool.{and_parts, eqb-true}
 use Rattle.std.specs.{List.{list_all}, Map.{lookup}, Prelude.{◌==◌, unwrap_or}, Str.{bytes_eq}}
 use Rattle.rio_leaf.specs.{Marks.{is_leaf_letter}, Spelling.{text_of_dim}, declared.branch.Shape.{Shape, TheVariants.{Leaves, Class}}}
 use Rattle.rio_leaf.specs.{declared.leaf.Dim.{Dim, TheVariants.{One, Fixed, Counted}}, declared.leaf.Leaf.{Leaf}}
-use Rattle.rio_value.specs.declared.value.Part.{Part}
-use Rattle.rio_value.specs.declared.value.Value.{Value, Int, Bool as Truth, Text, TheVariants.{outs-Back, outs-Bool, outs-Int, outs-List, outs-Null, outs-Object, outs-Text}}
-use Rattle.rio_value.specs.{Accessors.{class_of_object}, PartsWithBases.{member_in, parts_with_bases}}
-use Rattle.rio_format.specs.{Bodies.{part}, Fits.{fits_signed}, WrittenList.{array_object, number_part, plain_object, titled_object}}
+use Rattle.rio_format.specs.{declared.value.Part.{Part}, declared.value.Value.{Value, Int, Bool as Truth, Text, TheVariants.{outs-Back, outs-Bool, outs-Int, outs-List, outs-Null, outs-Object, outs-Text}}}
+use Rattle.rio_format.specs.{Accessors.{class_of_object}, PartsWithBases.{member_in, parts_with_bases}, Bodies.{part}, Fits.{fits_signed}, WrittenList.{array_object, number_part, plain_object, titled_object}}
 use Rattle.rio_tree.specs.{declared.basket_at.BasketAt.{BasketAt}, declared.head.Branch.{Branch}, Header.{branch_leaves}}
 use Rattle.rio_tree.specs.BranchMembers.{BranchSaid, branch_said, entry_class, leaf_items}
 use Rattle.rio_tree.specs.HeaderLeaves.{LeafSaid, counter_in, leaf_said, letter_of_class}

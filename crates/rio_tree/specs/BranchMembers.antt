@@ -1,7 +1,7 @@
 -- What a branch in a header says.
 use Rattle.std.specs.{Prelude.{ℕ, ℤ, pos, negsuc, List, [], codes, ◌&&◌, Option, Some, None, unwrap_or, option_map, option_and_then, if◌then◌else◌}, Ordering.{int_eq}}
 use Rattle.std.specs.Str.{bytes_eq}
-use Rattle.rio_value.specs.{declared.value.Value.{Value}, Accessors.{class_of_object, version_of_object}}
+use Rattle.rio_format.specs.{declared.value.Value.{Value}, Accessors.{class_of_object, version_of_object}}
 use Rattle.rio_tree.specs.Members.{◌>>=◌, integer_member, integers_member, name_member, pointers_member}
 
 -- what a branch says that has all members that are needed

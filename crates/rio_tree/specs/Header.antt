@@ -4,7 +4,7 @@ use Rattle.std.specs.{List.{list_any}, Option.{ok_or}, Result.{result_err, resul
 use Rattle.rio_num.specs.Reading.{◌>>=◌}
 use Rattle.rio_leaf.specs.{declared.branch.Shape.{Shape, TheVariants.{Leaves, Class}}, declared.leaf.Leaf.{Leaf}, Leaves.{is_counted_dim}, Stated.{leaves_of}}
 use Rattle.rio_leaf.specs.Marks.{letter_of_texts}
-use Rattle.rio_value.specs.declared.value.Value.{Value}
+use Rattle.rio_format.specs.declared.value.Value.{Value}
 use Rattle.rio_tree.specs.{declared.basket_at.BasketAt.{BasketAt}, declared.fault.TreeFault.{TreeFault, TheVariants.{MissingMember}}}
 use Rattle.rio_tree.specs.{declared.head.Branch.{Branch}, declared.head.TreeHead.{TreeHead}, declared.refusal.BranchRefusal.{BranchRefusal}}
 use Rattle.rio_tree.specs.BranchMembers.{BranchSaid, class_version_said, leaf_items}

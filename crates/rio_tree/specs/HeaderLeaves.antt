@@ -2,8 +2,7 @@
 use Rattle.std.specs.Prelude.{ℕ, ℤ, pos, negsuc, max, List, [], ◌∷◌, ◌++◌, length, codes, Bool, true, false, ◌==◌, ◌&&◌, ◌||◌, nat_lt, Option, Some, None, is_none, slice_get, unwrap_or, option_map, option_and_then, Result, Ok, if◌then◌else◌}
 use Rattle.std.specs.{Option.{ok_or, option_map_or}, Str.{bytes_eq}}
 use Rattle.rio_num.specs.Reading.{some_if}
-use Rattle.rio_value.specs.{declared.value.Part.{Part}, declared.value.Value.{Value, out-Value, TheOpen.{Value-F, Null, Pointed, Back}}}
-use Rattle.rio_value.specs.{Accessors.{class_of_object}, PartsWithBases.{member_in}}
+use Rattle.rio_format.specs.{declared.value.Part.{Part}, declared.value.Value.{Value, out-Value, TheOpen.{Value-F, Null, Pointed, Back}}, Accessors.{class_of_object}, PartsWithBases.{member_in}}
 use Rattle.rio_leaf.specs.{declared.branch.Shape.{Shape, TheVariants.{Leaves, Class}}, declared.leaf.Dim.{Dim, TheVariants.{One, Fixed, Counted}}}
 use Rattle.rio_leaf.specs.{declared.leaf.Leaf.{Leaf}, Leaves.{is_one}, Marks.{letter_of_counters, letter_of_texts}}
 use Rattle.rio_tree.specs.{declared.head.Branch.{Branch}, declared.refusal.BranchRefusal.{BranchRefusal, TheVariants.{NoCounter}}}

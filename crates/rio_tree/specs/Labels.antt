@@ -1,7 +1,6 @@
 -- The objects that are pointed to within a value, by their labels.
 use Rattle.std.specs.{Prelude.{ℕ, List, [], ◌∷◌, nat_eq, Option, Some, None}, List.{flat_map}, Map.{lookup}, Option.{option_or}}
-use Rattle.rio_value.specs.declared.value.Part.{Part}
-use Rattle.rio_value.specs.declared.value.Value.{Value, out-Value, TheOpen.{Value-F, List as Items, Object, Pointed, Back}, TheFolds.{para-Value}}
+use Rattle.rio_format.specs.{declared.value.Part.{Part}, declared.value.Value.{Value, out-Value, TheOpen.{Value-F, List as Items, Object, Pointed, Back}, TheFolds.{para-Value}}}
 
 -- one layer of a value, with the objects within each child beside it
 abbrev pub labelled_step : Value-F (Value × List (ℕ × Value)) (Part × List (ℕ × Value)) → List (ℕ × Value)

@@ -2,8 +2,8 @@
 use Rattle.std.specs.{Prelude.{ℕ, ℤ, pos, negsuc, List, codes, take, Bool, true, false, Option, Some, None, is_some, option_and_then, if◌then◌else◌}, List.{list_all}}
 use Rattle.std.specs.Str.{bytes_eq}
 use Rattle.rio_num.specs.Reading.{some_if}
-use Rattle.rio_value.specs.{Accessors.{class_of_object, integer_in, list_in, own_parts, part_of, text_bytes_in, truth_in}, PartsWithBases.{member_in}}
-use Rattle.rio_value.specs.{declared.value.Part.{Part}, declared.value.Value.{Value, out-Value, TheOpen.{Value-F, Pointed, Null, Back}}}
+use Rattle.rio_format.specs.{Accessors.{class_of_object, integer_in, list_in, own_parts, part_of, text_bytes_in, truth_in}, PartsWithBases.{member_in}}
+use Rattle.rio_format.specs.{declared.value.Part.{Part}, declared.value.Value.{Value, out-Value, TheOpen.{Value-F, Pointed, Null, Back}}}
 
 -- one after the other, where each is there
 infixl 10 ◌>>=◌

@@ -3,7 +3,7 @@
 use Rattle.std.specs.Prelude.{ℕ, List, [], ◌∷◌, ◌++◌, map, slice_get, length, Bool, ◌==◌, ◌&&◌, not, Option, Some, None, is_none, unwrap_or, option_and_then}
 use Rattle.std.specs.{List.{range_with_len}, Option.{option_map}, Result.{result_ok}}
 use Rattle.rio_num.specs.Reading.{some_if}
-use Rattle.rio_basket.specs.Entries.{entries_in}
+use Rattle.rio_key.specs.BasketEntries.{entries_in}
 use Rattle.rio_tree.specs.{Index.{basket_counts}, Members.{◌>>=◌}}
 use Rattle.rio_tree.specs.{declared.basket_at.BasketAt.{BasketAt}, declared.head.Branch.{Branch}, declared.head.TreeHead.{TreeHead}}
 

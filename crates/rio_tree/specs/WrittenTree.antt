@@ -3,7 +3,7 @@ use Rattle.std.specs.{Prelude.{ℕ, ◌+◌, pos, List, [], ◌∷◌, ◌++◌,
 use Rattle.std.specs.{Map.{lookup}, Str.{bytes_eq}}
 use Rattle.rio_leaf.specs.{Spelling.{text_of_dim, text_of_leaves}, declared.branch.Shape.{Shape, TheVariants.{Leaves, Class}}}
 use Rattle.rio_leaf.specs.{declared.leaf.Dim.{Dim, TheVariants.{Fixed, Counted}}, declared.leaf.Leaf.{Leaf}}
-use Rattle.rio_value.specs.{declared.value.Part.{Part}, declared.value.Value.{Value, Int, Bool as Truth, Text, List as Items, Object, Pointed, Null, Back}}
+use Rattle.rio_format.specs.{declared.value.Part.{Part}, declared.value.Value.{Value, Int, Bool as Truth, Text, List as Items, Object, Pointed, Null, Back}}
 use Rattle.rio_format.specs.{Bodies.{part}, WrittenList.{array_object, number_part, titled_object}}
 use Rattle.rio_tree.specs.{declared.basket_at.BasketAt.{BasketAt}, declared.head.Branch.{Branch}, declared.head.TreeHead.{TreeHead}, Header.{branch_leaves}}
 

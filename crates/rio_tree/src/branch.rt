@@ -18,7 +18,7 @@ use crate::unread::Unread;
 use crate::{Baskets, Branch, BranchNumbers, BranchRefusal, Branches};
 use rio_leaf::{BranchDef, Leaf, Leaves, Shape, is_counted_dim};
 use rio_num::{Name, NoMemory};
-use rio_value::Value;
+use rio_format::Value;
 use std::alloc::Global;
 
 // A branch that is refused before its leaves are known.

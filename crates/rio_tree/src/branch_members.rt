@@ -13,7 +13,7 @@ use crate::leaf::leaf_at_pointer;
 use crate::members::{
     i32_member, i32s_member, i64_member, i64s_member, name_member, pointers_member,
 };
-use rio_value::Value;
+use rio_format::Value;
 
 /// What a branch says that has all members that are needed. `class` is the class of its entries, if it is a branch of
 /// objects.

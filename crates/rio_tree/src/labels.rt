@@ -6,7 +6,7 @@ ghost use Rattle.rio_tree.specs.Labels.{label_in, labelled_in, labels_in, object
 ghost use Rattle.rio_tree.specs.Tables.{labels_of};
 
 use rio_num::NoMemory;
-use rio_value::{Part, Value};
+use rio_format::{Part, Value};
 use std::alloc::Global;
 use std::collections::HashMap;
 

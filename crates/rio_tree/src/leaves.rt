@@ -14,7 +14,7 @@ use crate::unread::Unread;
 use crate::{BranchNumbers, BranchRefusal, Branches};
 use rio_leaf::{Dim, Leaf, Leaves};
 use rio_num::{Name, NoMemory};
-use rio_value::Value;
+use rio_format::Value;
 use std::alloc::Global;
 use std::collections::BTreeSet;
 

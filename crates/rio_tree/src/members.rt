@@ -4,7 +4,7 @@ ghost use Rattle.std.specs.Option.{option_copied};
 ghost use Rattle.std.specs.List.{list_all};
 ghost use Rattle.rio_tree.specs.Members.{if_pointers, integer_member, integers_in, integers_member, is_integer, is_pointer, name_member, pointers_in, pointers_member, truth_member};
 
-use rio_value::Value;
+use rio_format::Value;
 
 fn are_i32(items: &[Value]) -> bool
     ensures { result ≡ list_all (is_integer 32) items.now }

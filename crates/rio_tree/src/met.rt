@@ -10,7 +10,7 @@ use crate::leaf::{is_plain_number, leaf_said};
 use crate::members::name_member;
 use rio_leaf::Shape;
 use rio_num::NoMemory;
-use rio_value::Value;
+use rio_format::Value;
 use std::alloc::Global;
 use std::collections::HashMap;
 

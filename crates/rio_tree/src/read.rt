@@ -12,7 +12,7 @@ use crate::members::{i64_member, pointers_member};
 use crate::met::MetTable;
 use crate::{Branches, TreeFault, TreeHead};
 use rio_num::{Name, NoMemory};
-use rio_value::Value;
+use rio_format::Value;
 use std::alloc::Global;
 
 fn entries_member(value: &Value) -> Option<u64>

@@ -10,7 +10,7 @@ ghost use Rattle.rio_tree.specs.declared.refusal.BranchRefusal.TheVariants.{BadB
 use crate::branch_members::BranchSaid;
 use crate::unread::Unread;
 use crate::{BasketAt, Baskets, BranchRefusal};
-use rio_value::Value;
+use rio_format::Value;
 use std::alloc::Global;
 
 fn u32_in(value: &Value) -> Option<u32>

@@ -9,10 +9,9 @@ use crate::written_baskets::{BasketNumber, basket_numbers};
 use crate::written_labels::{LeafLabels, label_behind};
 use crate::written_leaf::leaf_pointers;
 use crate::{Branch, TreeHead};
-use rio_format::{PartList, array_object, titled_object};
+use rio_format::{PartList, Value, Values, array_object, titled_object};
 use rio_leaf::{Leaf, Shape, leaves_of, print_leaves};
 use rio_num::{Boxed, Bytes, Name, NoMemory};
-use rio_value::{Value, Values};
 use std::alloc::Global;
 
 fn branch_title(alloc: Global, shape: &Shape) -> Result<Name, NoMemory>

@@ -5,7 +5,7 @@ ghost use Rattle.rio_tree.specs.WrittenTree.{basket_numbers};
 
 use crate::BasketAt;
 use rio_num::NoMemory;
-use rio_value::{Value, Values};
+use rio_format::{Value, Values};
 use std::alloc::Global;
 
 /// A number of a basket.

@@ -1,7 +1,7 @@
 //! The labels of leaves by their names.
 ghost use Rattle.std.specs.Prelude.{◌≡◌, ◌+◌, ℕ, List, if◌then◌else◌, Some, IfOk, OnOk, OnErr};
 ghost use Rattle.std.specs.Str.{bytes_eq};
-ghost use Rattle.rio_types.specs.Index.{name_place};
+ghost use Rattle.rio_format.specs.Index.{name_place};
 
 use rio_num::{Name, NoMemory};
 use std::alloc::Global;

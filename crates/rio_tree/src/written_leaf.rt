@@ -4,10 +4,9 @@ ghost use Rattle.rio_leaf.specs.Spelling.{text_of_dim};
 ghost use Rattle.rio_tree.specs.WrittenTree.{class_of_letter, counter_pointer, is_unsigned_letter, labels_behind, leaf_object, leaf_pointers, plain_leaf_object, width_of_letter, written_count};
 
 use crate::written_labels::{LeafLabels, label_behind};
-use rio_format::{PartList, titled_object};
+use rio_format::{PartList, Value, Values, titled_object};
 use rio_leaf::{Dim, Leaf, put_dim};
 use rio_num::{Boxed, Bytes, Name, NoMemory};
-use rio_value::{Value, Values};
 use std::alloc::Global;
 
 fn class_of_letter(letter: u8) -> &'static [u8]

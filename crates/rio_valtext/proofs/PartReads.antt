@@ -1,8 +1,7 @@
 -- A part of an object, as it is read and put at the end of the others.
 use Rattle.std.proofs.Common.{◌≡◌, ℕ, List, [], ◌∷◌, ◌++◌, Bool, true, false, if◌then◌else◌, Result, Ok, Err, OnOk, sym, ap, ◌∙◌, refl}
 use Rattle.rio_num.specs.At.{At}
-use Rattle.rio_value.specs.declared.{value.Part.{Part}, value.Value.{Value}}
-use Rattle.rio_format.specs.Bodies.{part}
+use Rattle.rio_format.specs.{declared.value.Part.{Part}, declared.value.Value.{Value}, Bodies.{part}}
 use Rattle.rio_token.specs.{declared.fault.TextFault.{TextFault}, Marks.{colon}, Tokens.{behind}, Reading.{Read, marked, name_at}}
 use Rattle.rio_model.specs.ValueGrammar.{Reader, object_at, part_at, value_in_text}
 

@@ -3,11 +3,9 @@ use Rattle.std.proofs.Common.{◌≡◌, ◌&&◌, ℕ, ℤ, pos, Bool, true, fa
 use Rattle.std.proofs.{lemmas.Bool.{and_parts, Decides.{Decides-int_eq}}, lemmas.Slice.Eq.{bytes_eq-Decides}}
 use Rattle.std.specs.{List.{list_all}, Ordering.{int_eq}, Str.{bytes_eq}}
 use Rattle.rio_num.specs.Word.{is_name_text}
-use Rattle.rio_types.specs.{Classes.{find_in}, declared.class.ClassDef.{ClassDef}, declared.kind.Kind.TheVariants.{Plain, Text as Texted}}
-use Rattle.rio_types.specs.declared.kind.Primitive.TheVariants.{I32, U32}
+use Rattle.rio_format.specs.{Classes.{find_in}, declared.class.ClassDef.{ClassDef}, declared.kind.Kind.TheVariants.{Plain, Text as Texted}, declared.kind.Primitive.TheVariants.{I32, U32}}
 use Rattle.rio_format.specs.Bodies.{form_of, Body, described, listed, arrayed, t_named, t_obj_string, t_object_base, built_in, headed_classes, headless_classes, row_of}
-use Rattle.rio_format.specs.declared.form.Form.{Form, TheVariants.{Bare as bare, Numbers as numbers, Headed as headed}}
-use Rattle.rio_format.specs.Fits.{Labels, Fitting, fields_fit, parts_fit}
+use Rattle.rio_format.specs.{declared.form.Form.{Form, TheVariants.{Bare as bare, Numbers as numbers, Headed as headed}}, Fits.{Labels, Fitting, fields_fit, parts_fit}}
 use Rattle.rio_format.specs.Slots.{Field, kinded, flags, any_pointer, link, many, field, base_field, member_field, body_fields, form_fields, fields_of, is_headed}
 use Rattle.rio_format.proofs.{BuiltInLaws.{of_body, of_each}, ValueCases.{Each}, WrittenObjects.{declared_from}}
 use Rattle.rio_model.specs.{Readable.{are_bases_first}, Stated.{is_class_version}}

@@ -3,8 +3,7 @@ use Rattle.std.proofs.{Common.{◌≡◌, ◌&&◌, ◌==◌, true, List, [], �
 use Rattle.std.specs.List.{list_all}
 use Rattle.rio_num.specs.Word.{is_name_text}
 use Rattle.rio_num.proofs.Cases.{some_of}
-use Rattle.rio_types.specs.{declared.class.ClassDef.{ClassDef}, declared.class.Member.{Member}, declared.kind.Kind.TheVariants.{Inline}}
-use Rattle.rio_format.specs.{Fits.{fitting_of}, Objects.{depth_limit}, Slots.{kinded}}
+use Rattle.rio_format.specs.{declared.class.ClassDef.{ClassDef}, declared.class.Member.{Member}, declared.kind.Kind.TheVariants.{Inline}, Fits.{fitting_of}, Objects.{depth_limit}, Slots.{kinded}}
 use Rattle.rio_model.specs.ClassGrammar.{has_member}
 use Rattle.rio_model.specs.Stated.{are_stated_bases, are_stated_members, has_stated_parts, is_class_version, is_stated_kind, is_stated_member}
 use Rattle.rio_model.specs.ValueGrammar.{bracket_limit}

@@ -1,10 +1,8 @@
 -- Single values that fit are readable.
 use Rattle.std.proofs.{Common.{◌≡◌, ◌==◌, ℕ, ◌^◌, ℤ, pos, negsuc, Bool, true, false, Some, nat_lt, refl, arith}, lemmas.Bool.{and_parts, Decides.{nat_tests}}}
 use Rattle.std.specs.Prelude.{bit_and}
-use Rattle.rio_types.specs.declared.kind.Kind.TheVariants.{Plain, Counter, Text as Texted, Pointer}
-use Rattle.rio_types.specs.declared.kind.Primitive.{Primitive, TheVariants.{I8, I16, I32, I64, U8, U16, U32, U64, Bool as Boolean, F32, F64}}
-use Rattle.rio_format.specs.Fits.{Labels, pass, fits_prim, fits_signed, fits_unsigned, int_fits, bits32_fits, bits64_fits, truth_fits, text_fits, is_pointer}
-use Rattle.rio_format.specs.Slots.{Slot, kinded, flags, any_pointer}
+use Rattle.rio_format.specs.{declared.kind.Kind.TheVariants.{Plain, Counter, Text as Texted, Pointer}, declared.kind.Primitive.{Primitive, TheVariants.{I8, I16, I32, I64, U8, U16, U32, U64, Bool as Boolean, F32, F64}}}
+use Rattle.rio_format.specs.{Fits.{Labels, pass, fits_prim, fits_signed, fits_unsigned, int_fits, bits32_fits, bits64_fits, truth_fits, text_fits, is_pointer}, Slots.{Slot, kinded, flags, any_pointer}}
 use Rattle.rio_model.specs.Readable.{is_number}
 use Rattle.rio_valtext.proofs.StoredSlots.{is_object_slot}
 

@@ -3,11 +3,8 @@ use Rattle.std.proofs.{Common.{◌≡◌, ◌==◌, ℕ, suc, ◌+◌, ◌*◌, 
 use Rattle.std.proofs.lemmas.Bool.Decides.{nat_tests}
 use Rattle.std.specs.{List.{list_all}, Map.{lookup}, Str.{bytes_eq}}
 use Rattle.rio_num.specs.Word.{is_name_text}
-use Rattle.rio_types.specs.{declared.class.Base.{Base}, declared.class.Member.{Member}}
-use Rattle.rio_types.specs.declared.kind.Kind.{Kind, TheVariants.{Plain, Counter, Fixed, Counted, Text as Texted, Inline, Pointer, Other}}
-use Rattle.rio_types.specs.declared.kind.Primitive.{Primitive}
-use Rattle.rio_format.specs.{Bodies.{Counters}, Fits.{counted_slot, fixed_by}}
-use Rattle.rio_format.specs.Slots.{Slot, kinded, based, flags, any_pointer, link, many, Field, field, base_field, member_field}
+use Rattle.rio_format.specs.{declared.class.Base.{Base}, declared.class.Member.{Member}, declared.kind.Kind.{Kind, TheVariants.{Plain, Counter, Fixed, Counted, Text as Texted, Inline, Pointer, Other}}}
+use Rattle.rio_format.specs.{declared.kind.Primitive.{Primitive}, Bodies.{Counters}, Fits.{counted_slot, fixed_by}, Slots.{Slot, kinded, based, flags, any_pointer, link, many, Field, field, base_field, member_field}}
 use Rattle.rio_format.proofs.ValueCases.{Each}
 use Rattle.rio_model.specs.Readable.{are_bases_first}
 

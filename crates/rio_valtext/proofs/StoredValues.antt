@@ -3,16 +3,13 @@ use Rattle.std.proofs.Common.{◌≡◌, ◌&&◌, ◌==◌, ℕ, zero, suc, ◌
 use Rattle.std.proofs.{lemmas.Option.{option_and_then_some}, lemmas.Bool.{and_from, and_parts, Decides.{nat_tests}}}
 use Rattle.std.specs.{Prelude.{slice_get}, List.{list_all}, Str.{bytes_eq}}
 use Rattle.rio_num.specs.Word.{is_name_text}
-use Rattle.rio_types.specs.{declared.class.ClassDef.{ClassDef}, declared.kind.Kind.TheVariants.{Plain, Fixed, Text as Texted, Inline, Pointer}}
-use Rattle.rio_value.specs.Depth.{greatest, depth_step, depth_of}
-use Rattle.rio_value.specs.declared.value.Value.{Value, Int, Bits32, Bits64, Bool as Truth, Text, List as Items, Object, Pointed, Null, Back, Opaque, TheFolds.{fold-Part, fold_out-Part}}
-use Rattle.rio_value.specs.declared.value.Part.{Part}
-use Rattle.rio_value.specs.declared.value.Value.TheOpen as layer
-use Rattle.rio_value.proofs.DepthLaws.{part_depth}
+use Rattle.rio_format.specs.{declared.class.ClassDef.{ClassDef}, declared.kind.Kind.TheVariants.{Plain, Fixed, Text as Texted, Inline, Pointer}, Depth.{greatest, depth_step, depth_of}}
+use Rattle.rio_format.specs.{declared.value.Value.{Value, Int, Bits32, Bits64, Bool as Truth, Text, List as Items, Object, Pointed, Null, Back, Opaque, TheFolds.{fold-Part, fold_out-Part}}, declared.value.Part.{Part}}
+use Rattle.rio_format.specs.declared.value.Value.TheOpen as layer
+use Rattle.rio_format.proofs.{DepthLaws.{part_depth}, Tests.{named_as}}
 use Rattle.rio_format.specs.Bodies.{Counters}
 use Rattle.rio_format.specs.Fits.{Labels, Fitting, int_fits, bits32_fits, bits64_fits, truth_fits, text_fits, is_pointer, all_fit, link_fits, fields_fit, parts_fit, counted_slot, counted_so_far, object_may_stand, may_point, pointed_fits, back_fits, fitting_step, fitting_of}
 use Rattle.rio_format.specs.Slots.{Slot, kinded, based, any_pointer, link, many, Field, fields_of}
-use Rattle.rio_format.proofs.Tests.{named_as}
 use Rattle.rio_format.proofs.ValueCases.{Each, by_cases, fold_Int, fold_Bits32, fold_Bits64, fold_Bool, fold_Text, fold_List, fold_Object, fold_Pointed, fold_Null, fold_Back, fold_Opaque}
 use Rattle.rio_format.proofs.{WrittenLists.{fittings}, WrittenValues.{object_fitting, fit_object}}
 use Rattle.rio_model.specs.Readable.{PartReadability, Readability, are_bases_first, are_parts_within, is_number, part_readable, readability_of, readable_step, single}

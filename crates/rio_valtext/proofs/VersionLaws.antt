@@ -2,9 +2,8 @@
 use Rattle.std.proofs.Common.{◌≡◌, ◌&&◌, ◌||◌, ℕ, ℤ, pos, List, [], ◌∷◌, Bool, true, false, not, cond, map, length, codes, ◌==◌, Some, None, is_some, if◌then◌else◌, refl, sym, ap, subst, ◌∙◌}
 use Rattle.std.proofs.{lemmas.Bool.{and_parts, Decides.{Decides-int_eq}}, lemmas.Option.{option_and_then_some}}
 use Rattle.std.specs.{List.{list_all}, Option.{option_map, option_map_or, option_or}, Ordering.{int_eq}, Str.{bytes_eq}}
-use Rattle.rio_types.specs.{Classes.{find_in}, declared.class.Base.{Base}, declared.class.ClassDef.{ClassDef}}
-use Rattle.rio_value.specs.declared.value.Part.{Part, Part-F}
-use Rattle.rio_value.specs.declared.value.Value.{Value, Int, Bits32, Bits64, Bool as Truth, Text, List as Items, Object, Pointed, Null, Back, Opaque, TheOpen.{Value-F}, TheFolds.{fold_out-Part}}
+use Rattle.rio_format.specs.{Classes.{find_in}, declared.class.Base.{Base}, declared.class.ClassDef.{ClassDef}, declared.value.Part.{Part, Part-F}}
+use Rattle.rio_format.specs.declared.value.Value.{Value, Int, Bits32, Bits64, Bool as Truth, Text, List as Items, Object, Pointed, Null, Back, Opaque, TheOpen.{Value-F}, TheFolds.{fold_out-Part}}
 use Rattle.rio_format.specs.{Bodies.{form_of, part}, Slots.{is_headed}}
 use Rattle.rio_format.proofs.ValueCases.{Each, by_cases, fold_Int, fold_Bits32, fold_Bits64, fold_Bool, fold_Text, fold_List, fold_Object, fold_Pointed, fold_Null, fold_Back, fold_Opaque}
 use Rattle.rio_model.specs.Resolving.{ResolvedHasVersions, Resolving, bases_in_version, built_in_version, each_resolved, has_all_versions, has_versions_step, is_known_version, meant_version, object_resolved, part_resolved, resolved_version, resolving_of, resolving_of_part, resolving_step}

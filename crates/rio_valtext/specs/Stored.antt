@@ -1,9 +1,8 @@
 -- Values that fit a class of a list: what a file stores. The text of each says everything of it, and is read as it.
 use Rattle.std.specs.{Prelude.{◌≡◌, ℕ, ◌+◌, ◌≤◌, ◌^◌, List, ◌++◌, length, nat_lt, Ok, Bool, true, ◌&&◌, IsTrue}, List.{list_all}}
 use Rattle.rio_num.specs.Word.{is_name_text}
-use Rattle.rio_types.specs.declared.class.ClassDef.{ClassDef}
-use Rattle.rio_value.specs.Depth.{depth_of}
-use Rattle.rio_value.specs.declared.value.Value.{Value, TheOpen.{Value-F, Int, Bits32, Bits64, Bool as Truth, Text, List as Items, Object, Pointed, Null, Back, Opaque}, TheFolds.{fold-Value}}
+use Rattle.rio_format.specs.{declared.class.ClassDef.{ClassDef}, Depth.{depth_of}}
+use Rattle.rio_format.specs.declared.value.Value.{Value, TheOpen.{Value-F, Int, Bits32, Bits64, Bool as Truth, Text, List as Items, Object, Pointed, Null, Back, Opaque}, TheFolds.{fold-Value}}
 use Rattle.rio_format.specs.{Fits.{Fits}, Objects.{depth_limit}}
 use Rattle.rio_model.specs.{Readable.{Follows, is_readable_value}, Stated.{has_stated_parts, is_class_version}, ValueGrammar.{value_in}}
 use Rattle.rio_model.specs.ValueText.{text_of_value}

@@ -4,14 +4,12 @@
 //! Up to 1,024 brackets are read within one another, by calls within one another. So these calls keep little: what is made of
 //! a value that was read is made in calls of their own, which are left before the next value is read.
 ghost use Rattle.std.specs.Prelude.{◌≡◌, ◌<◌, ◌^◌, ◌-◌, ◌++◌, [], ◌∷◌, length, IfErr, IfOk, OnOk, Ok, if◌then◌else◌};
-ghost use Rattle.rio_format.specs.Bodies.{part};
+ghost use Rattle.rio_format.specs.{Bodies.{part}, declared.value.Part.{Part as Parted}, declared.value.Value.{Value as Given, Object, Pointed}};
 ghost use Rattle.rio_num.specs.Answers.{FailsUnless};
 ghost use Rattle.rio_num.specs.At.{At};
 ghost use Rattle.rio_num.specs.Word.{is_name_text};
 ghost use Rattle.rio_token.specs.declared.fault.TextFault.TheVariants.{NoMemory as OutOfMemory};
 ghost use Rattle.rio_token.specs.Tokens.{token_place};
-ghost use Rattle.rio_value.specs.declared.value.Part.{Part as Parted};
-ghost use Rattle.rio_value.specs.declared.value.Value.{Value as Given, Object, Pointed};
 ghost use Rattle.rio_token.specs.Reading.{AnswersText, Reads, TakesInMemory, list_at, more_at};
 ghost use Rattle.rio_token.specs.Words.{bits_of, number_of};
 ghost use Rattle.rio_token.specs.Marks.{closing_brace, closing_bracket};
@@ -19,7 +17,7 @@ ghost use Rattle.rio_model.specs.ValueGrammar.{bracket_limit, class_version_at, 
 
 use rio_num::{Boxed, Name, NoMemory, is_name};
 use rio_token::{Bits, TextFault, Token, Tokens, parse_bits, parse_number};
-use rio_value::{Part, Parts, Value, Values};
+use rio_format::{Part, Parts, Value, Values};
 use std::alloc::Global;
 
 /// How many brackets may stand within one another.

@@ -2,17 +2,13 @@
 //! little: what is made of a value is made in calls of their own.
 ghost use Rattle.std.specs.Prelude.{◌≡◌, ◌==◌, [], ◌∷◌, length, map, option_and_then, IfOk, IfErr, Some, None, if◌then◌else◌};
 ghost use Rattle.std.specs.Option.{option_map};
-ghost use Rattle.rio_value.specs.declared.value.Value.{List as Items, Object, Pointed};
-ghost use Rattle.rio_format.specs.Bodies.{part, t_object_base};
-ghost use Rattle.rio_format.specs.Slots.{body_bases, headed_body};
+ghost use Rattle.rio_format.specs.{declared.value.Value.{List as Items, Object, Pointed}, Bodies.{part, t_object_base}, Slots.{body_bases, headed_body}};
 ghost use Rattle.rio_model.specs.Resolving.{ResolvedHasVersions, ResolvedStays, base_version, each_resolved, is_known_version, meant_version, newest_known, object_resolved, resolved, resolved_row, resolved_version, resolving_of, resolving_of_part};
 ghost use Rattle.rio_valtext.specs.Resolves.{Resolves};
 
-use rio_format::{Body, BodyKind, declared_body, is_headed};
+use rio_format::{Base, Body, BodyKind, Classes, Part, Parts, Value, Values, copy, declared_body, is_headed};
 use rio_model::{built_in_version, newest_known};
 use rio_num::{Boxed, Name, NoMemory};
-use rio_types::{Base, Classes};
-use rio_value::{Part, Parts, Value, Values, copy};
 use std::alloc::Global;
 use thiserror::Error;
 

@@ -2,8 +2,7 @@
 use Rattle.std.proofs.Common.{◌≡◌, ◌⊎◌, inl, inr, ℕ, ℤ, pos, Bool, true, false, not, ◌||◌, IsTrue, List, [], codes, Option, Some, None, refl, subst}
 use Rattle.std.proofs.lemmas.Slice.Eq.{bytes_eq-Decides}
 use Rattle.std.specs.{Ordering.{int_eq}, Str.{bytes_eq}}
-use Rattle.rio_types.specs.declared.class.ClassDef.{ClassDef}
-use Rattle.rio_format.specs.{Bodies.{built_in, form_of}, declared.form.Form.{Form, TheVariants.{Headed as headed}}}
+use Rattle.rio_format.specs.{declared.class.ClassDef.{ClassDef}, Bodies.{built_in, form_of}, declared.form.Form.{Form, TheVariants.{Headed as headed}}}
 use Rattle.rio_format.specs.{Fits.{Fitting, Labels, parts_fit}, Slots.{declared_body, fields_of, is_headed}, BuiltIn.{is_small_builtin}}
 
 -- it fits behind some labels

@@ -3,9 +3,7 @@ use Rattle.std.proofs.Common.{◌≡◌, ◌^◌, ◌+◌, ℕ, List, [], ◌++�
 use Rattle.std.proofs.lemmas.List.{length-append, length-drop, length-take}
 use Rattle.byteorder.specs.Endian.{big_bytes}
 use Rattle.rio_num.specs.declared.no_memory.NoMemory.{NoMemory}
-use Rattle.rio_buffer.specs.ReaderState.{no_words, with_label}
-use Rattle.rio_buffer.specs.Writer.{Writer, WriterState, begun, begun_pointer, class_bytes, counted_from, ended, next_place, nothing_written, with_count}
-use Rattle.rio_format.specs.Written.{just, reference_bytes}
+use Rattle.rio_format.specs.{ReaderState.{no_words, with_label}, Writer.{Writer, WriterState, begun, begun_pointer, class_bytes, counted_from, ended, next_place, nothing_written, with_count}, Written.{just, reference_bytes}}
 use Rattle.rio_write.specs.{Measuring.{CountsFor, FollowsWords, Grows, Measured, Measures, longer, too_long}, Sinks.{Accepted, Closes, Opened, OpensIn}}
 use Rattle.rio_write.specs.Writing.{with_written}
 use Rattle.rio_write.proofs.{MeasureLaws.{back_grows, below_more, follows_on, just_grows}, WriteLaws.{first_written}}

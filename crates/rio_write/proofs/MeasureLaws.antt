@@ -4,8 +4,7 @@ use Rattle.std.proofs.{lemmas.Bool.{ne_eqb}, lemmas.List.{length-append}}
 use Rattle.std.specs.{List.{find, list_any}, Str.{bytes_eq}}
 use Rattle.byteorder.specs.Endian.{big_bytes}
 use Rattle.indexmap.specs.IndexMap.{insert_entry}
-use Rattle.rio_buffer.specs.{ReaderState.{WordsMet}, Writer.{class_by, class_bytes}}
-use Rattle.rio_format.specs.Written.{just, reference_bytes}
+use Rattle.rio_format.specs.{ReaderState.{WordsMet}, Writer.{class_by, class_bytes}, Written.{just, reference_bytes}}
 use Rattle.rio_write.specs.Measuring.{AreBelow, FollowsWords, Grows, Measured, longer, too_long}
 
 -- ---- places

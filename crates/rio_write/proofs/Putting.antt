@@ -1,10 +1,7 @@
 -- What is put at the end for a small built-in object is what is written for it there.
 use Rattle.std.proofs.Common.{◌≡◌, ℕ, List, [], ◌++◌, Result, Ok, Err, sym, ap, subst, ◌∙◌}
 use Rattle.rio_num.specs.{Room.{Room, room_of}, declared.no_memory.NoMemory.{NoMemory}}
-use Rattle.rio_types.specs.declared.class.ClassDef.{ClassDef}
-use Rattle.rio_value.specs.declared.value.Value.{Value}
-use Rattle.rio_buffer.specs.{ReaderState.{WordsMet}, Writer.{Puts, WriterState, next_place}}
-use Rattle.rio_format.specs.Written.{written_form}
+use Rattle.rio_format.specs.{declared.class.ClassDef.{ClassDef}, declared.value.Value.{Value}, ReaderState.{WordsMet}, Writer.{Puts, WriterState, next_place}, Written.{written_form}}
 use Rattle.rio_write.specs.{Small.{IsSmallObject, own_writing}, Writing.{Writes, with_written}}
 use Rattle.rio_write.proofs.SmallLaws.{stand_anywhere}
 

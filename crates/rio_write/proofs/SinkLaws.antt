@@ -3,7 +3,7 @@ use Rattle.std.proofs.Common.{◌≡◌, ◌<◌, ◌≤◌, ◌^◌, ℕ, ◌+�
 use Rattle.std.specs.{Prelude.{ℤ}, Int.{w16, cast_unsigned}}
 use Rattle.byteorder.specs.Endian.{big_bytes}
 use Rattle.rio_num.specs.{Text.{text_bytes}, declared.no_memory.NoMemory.{NoMemory}}
-use Rattle.rio_buffer.specs.{ReaderState.{WordsMet, with_label}, Writer.{Writer, WriterState, begun, begun_pointer, class_bytes, next_place}}
+use Rattle.rio_format.specs.{ReaderState.{WordsMet, with_label}, Writer.{Writer, WriterState, begun, begun_pointer, class_bytes, next_place}}
 use Rattle.rio_format.specs.{Slots.{Field, Slot}, Written.{Writing, all, both, fields_bytes, headed_bytes, just}}
 use Rattle.rio_write.specs.{Sinks.{Accepted, Accepts, CanClose, CanPoint, Closes, Opened, RoomFor, StandsWithin}, Writing.{HasRoom, pointer_to, with_written}}
 use Rattle.rio_write.proofs.WriteLaws.{both_after, closed_at, closed_is, count_room, count_stands, header_room, inside, inside_room, item_room, items_done, items_go_on, items_room, nothing, opened_at, part_room, parts_done, parts_go_on, parts_missing, parts_room, place_room, pointer_room, room_first, room_then, still_innermost, text_room}

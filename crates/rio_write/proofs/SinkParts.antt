@@ -3,10 +3,8 @@ use Rattle.std.proofs.Common.{◌≡◌, ◌<◌, ◌≤◌, ◌⊎◌, inl, inr
 use Rattle.std.specs.Prelude.{pos, codes}
 use Rattle.byteorder.specs.Endian.{big_bytes}
 use Rattle.rio_num.specs.declared.no_memory.NoMemory.{NoMemory}
-use Rattle.rio_types.specs.{declared.kind.Kind.TheVariants.{Plain, Text as Texted}, declared.kind.Primitive.{Primitive, TheVariants.{I32, U16, U32}}}
-use Rattle.rio_format.specs.Slots.{any_pointer, based, flags, kinded, link, many}
-use Rattle.rio_format.specs.Written.{Writing, all, number_array_bytes, arrayed_bytes, bare_bytes, both, counted_bytes, just, link_bytes, listed_bytes}
-use Rattle.rio_buffer.specs.Writer.{Writer, WriterState}
+use Rattle.rio_format.specs.{declared.kind.Kind.TheVariants.{Plain, Text as Texted}, declared.kind.Primitive.{Primitive, TheVariants.{I32, U16, U32}}, Slots.{any_pointer, based, flags, kinded, link, many}}
+use Rattle.rio_format.specs.{Written.{Writing, all, number_array_bytes, arrayed_bytes, bare_bytes, both, counted_bytes, just, link_bytes, listed_bytes}, Writer.{Writer, WriterState}}
 use Rattle.rio_write.specs.Sinks.{Accepted, Accepts, RoomFor}
 use Rattle.rio_write.proofs.{Few.{one_is, two_are, three_are, four_are}, SinkLaws.{behind_room, both_accept, front_room, nothing_accepted}}
 

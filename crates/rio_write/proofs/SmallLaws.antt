@@ -2,14 +2,11 @@
 use Rattle.std.proofs.Common.{◌≡◌, ◌⊎◌, inl, inr, ℕ, ℤ, pos, negsuc, Bool, true, false, cond, ◌&&◌, List, [], map, codes, slice_get, IsTrue, is_some, Option, Some, None, refl, sym, ap, subst, ◌∙◌}
 use Rattle.std.proofs.lemmas.Slice.Eq.{bytes_eq-Decides}
 use Rattle.std.specs.Prelude.{◌==◌}
-use Rattle.rio_types.specs.{declared.class.ClassDef.{ClassDef}, declared.kind.Kind.TheVariants.{Inline}}
-use Rattle.rio_value.specs.declared.value.Part.{Part}
-use Rattle.rio_value.specs.declared.value.Value.{Value, Int, Bits32, Bits64, Bool as Truth, Text, List as Items, Object, Pointed, Null, Back, Opaque}
-use Rattle.rio_value.specs.declared.value.Value.TheOpen as layer
-use Rattle.rio_format.specs.Bodies.{built_in}
+use Rattle.rio_format.specs.{declared.class.ClassDef.{ClassDef}, declared.kind.Kind.TheVariants.{Inline}, declared.value.Part.{Part}}
+use Rattle.rio_format.specs.{declared.value.Value.{Value, Int, Bits32, Bits64, Bool as Truth, Text, List as Items, Object, Pointed, Null, Back, Opaque}, Bodies.{built_in}}
+use Rattle.rio_format.specs.declared.value.Value.TheOpen as layer
 use Rattle.rio_format.specs.Fits.{Fits, Fitting, Labels, back_fits, fitting_of, fitting_step, int_fits, object_may_stand, part_fitting, parts_fit, pass, pointed_fits}
-use Rattle.rio_format.specs.{Slots.{declared_body, fields_of, kinded}, Written.{writing_of, written_form}, BuiltIn.{is_small_builtin}}
-use Rattle.rio_buffer.specs.{ReaderState.{WordsMet, no_words}, Writer.{Writer}}
+use Rattle.rio_format.specs.{Slots.{declared_body, fields_of, kinded}, Written.{writing_of, written_form}, BuiltIn.{is_small_builtin}, ReaderState.{WordsMet, no_words}, Writer.{Writer}}
 use Rattle.rio_format.proofs.ValueCases.{Steps, by_cases, fold_Int, fold_Bits32, fold_Bits64, fold_Bool, fold_Text, fold_List, fold_Pointed, fold_Null, fold_Back, fold_Opaque}
 use Rattle.rio_write.specs.{Small.{SmallBuiltinsAreAlike, SmallBuiltinsStandAnywhere}, Writing.{IsSmallBuiltin}}
 use Rattle.rio_write.proofs.{BuiltinBodies.{body_is, which}, SmallObjects.{HasItsBody, form_stays}}

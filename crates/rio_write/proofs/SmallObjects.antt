@@ -3,16 +3,11 @@ use Rattle.std.proofs.Common.{◌≡◌, ◌^◌, ◌⊎◌, inl, inr, ℕ, ◌+
 use Rattle.std.proofs.lemmas.List.{length-map}
 use Rattle.std.specs.{Int.{w16, cast_unsigned}, Ordering.{int_eq}}
 use Rattle.byteorder.specs.Endian.{big_bytes}
-use Rattle.rio_types.specs.{declared.class.ClassDef.{ClassDef}, declared.kind.Kind.TheVariants.{Plain}, declared.kind.Primitive.{Primitive}}
-use Rattle.rio_value.specs.{declared.value.Part.{Part}, declared.value.Value.{Value}}
-use Rattle.rio_format.specs.Bodies.{Body, built_in, form_of}
-use Rattle.rio_format.specs.{declared.form.Form.{Form, TheVariants.{Bare as bare, Headed as headed, Numbers as numbered}}, Fits.{Labels, part_fitting, parts_fit}}
-use Rattle.rio_format.specs.Slots.{body_fields, declared_body, form_fields, kinded, many}
-use Rattle.rio_format.specs.Written.{Writing, number_array_bytes, body_bytes, counted, form_bytes, headed_bytes, just, writing_of, writing_step}
-use Rattle.rio_format.specs.BuiltIn.{is_small_builtin}
-use Rattle.rio_buffer.specs.Writer.{Writer}
-use Rattle.rio_format.proofs.ValueCases.{Each, Steps, by_cases, fold_Int, fold_Bits32, fold_Bits64, fold_Bool, fold_Text, fold_List, fold_Object, fold_Pointed, fold_Null, fold_Back, fold_Opaque}
-use Rattle.rio_format.proofs.WrittenBodies.{first_fits}
+use Rattle.rio_format.specs.{declared.class.ClassDef.{ClassDef}, declared.kind.Kind.TheVariants.{Plain}, declared.kind.Primitive.{Primitive}, declared.value.Part.{Part}, declared.value.Value.{Value}}
+use Rattle.rio_format.specs.{Bodies.{Body, built_in, form_of}, declared.form.Form.{Form, TheVariants.{Bare as bare, Headed as headed, Numbers as numbered}}, Fits.{Labels, part_fitting, parts_fit}}
+use Rattle.rio_format.specs.{Slots.{body_fields, declared_body, form_fields, kinded, many}, Written.{Writing, number_array_bytes, body_bytes, counted, form_bytes, headed_bytes, just, writing_of, writing_step}}
+use Rattle.rio_format.specs.{BuiltIn.{is_small_builtin}, Writer.{Writer}}
+use Rattle.rio_format.proofs.{ValueCases.{Each, Steps, by_cases, fold_Int, fold_Bits32, fold_Bits64, fold_Bool, fold_Text, fold_List, fold_Object, fold_Pointed, fold_Null, fold_Back, fold_Opaque}, WrittenBodies.{first_fits}}
 use Rattle.rio_write.specs.Writing.{part_writing}
 use Rattle.rio_write.proofs.BuiltinBodies.{refuted, which}
 use Rattle.rio_write.proofs.SmallValues.{FitIn, FitParts, FormStays, IsAlike, Named, Steady, bare_parts, bare_steady, base, fields_alike, is_alike, numbers, part_value, parts_stay, steady_both, steady_just, text}

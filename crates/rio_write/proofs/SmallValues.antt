@@ -4,18 +4,13 @@ use Rattle.std.proofs.{lemmas.Option.{option_and_then_some}, lemmas.Slice.Eq.{by
 use Rattle.std.specs.{Option.{option_and_then}, Ordering.{int_eq}, Prelude.{◌==◌}, Str.{bytes_eq}}
 use Rattle.byteorder.specs.Endian.{big_bytes}
 use Rattle.rio_num.specs.Text.{text_bytes}
-use Rattle.rio_types.specs.{declared.class.ClassDef.{ClassDef}, declared.kind.Kind.TheVariants.{Plain, Text as Texted}}
-use Rattle.rio_types.specs.declared.kind.Primitive.{Primitive, TheVariants.{U32}}
-use Rattle.rio_value.specs.declared.value.Part.{Part, Part-F}
-use Rattle.rio_value.specs.declared.value.Value.{Value, Int, Bits32, Bits64, Bool as Truth, Text, List as Items, Object, TheFolds.{fold-Part, fold_out-Part}}
-use Rattle.rio_value.specs.declared.value.Value.TheOpen as layer
-use Rattle.rio_format.specs.Bodies.{Counters, form_of}
+use Rattle.rio_format.specs.{declared.class.ClassDef.{ClassDef}, declared.kind.Kind.TheVariants.{Plain, Text as Texted}, declared.kind.Primitive.{Primitive, TheVariants.{U32}}, declared.value.Part.{Part, Part-F}}
+use Rattle.rio_format.specs.{declared.value.Value.{Value, Int, Bits32, Bits64, Bool as Truth, Text, List as Items, Object, TheFolds.{fold-Part, fold_out-Part}}, Bodies.{Counters, form_of}}
+use Rattle.rio_format.specs.declared.value.Value.TheOpen as layer
 use Rattle.rio_format.specs.Fits.{Fitting, Labels, all_fit, back_fits, counted_slot, counted_so_far, fields_fit, fitting_of, fitting_step, object_may_stand, is_pointer, list_fits, part_fitting, parts_fit, pass, pointed_fits}
 use Rattle.rio_format.specs.Slots.{Field, Slot, based, field, fields_of, flags, kinded, many}
-use Rattle.rio_format.specs.Written.{Writing, all, bare_bytes, both, fields_bytes, form_bytes, int_bytes, just, plainly, truth_byte, writing_of, writing_step}
-use Rattle.rio_buffer.specs.{ReaderState.{WordsMet}, Writer.{Writer}}
-use Rattle.rio_format.proofs.ValueCases.{Each, Steps, by_cases, fold_Int, fold_Bits32, fold_Bits64, fold_Bool, fold_Text, fold_List, fold_Object, fold_Pointed, fold_Null, fold_Back, fold_Opaque}
-use Rattle.rio_format.proofs.WrittenBodies.{first_fits}
+use Rattle.rio_format.specs.{Written.{Writing, all, bare_bytes, both, fields_bytes, form_bytes, int_bytes, just, plainly, truth_byte, writing_of, writing_step}, ReaderState.{WordsMet}, Writer.{Writer}}
+use Rattle.rio_format.proofs.{ValueCases.{Each, Steps, by_cases, fold_Int, fold_Bits32, fold_Bits64, fold_Bool, fold_Text, fold_List, fold_Object, fold_Pointed, fold_Null, fold_Back, fold_Opaque}, WrittenBodies.{first_fits}}
 use Rattle.rio_write.specs.{Small.{own_writing}, Writing.{part_writing}}
 use Rattle.rio_write.proofs.{BuiltinBodies.{refuted}, WriteValues.{object_is}}
 

@@ -4,8 +4,7 @@ use Rattle.std.proofs.{Math.Nat.{lt_of_not-le}, lemmas.List.{get_or_past}}
 use Rattle.std.specs.Prelude.{◌↔◌, slice_index}
 use Rattle.byteorder.specs.Endian.{big_bytes}
 use Rattle.rio_num.specs.declared.no_memory.NoMemory.{NoMemory}
-use Rattle.rio_buffer.specs.{ReaderState.{no_words}, Writer.{Begins, Puts, Writer, WriterState, ended, innermost, nothing_written}}
-use Rattle.rio_format.specs.Written.{just, reference_bytes}
+use Rattle.rio_format.specs.{ReaderState.{no_words}, Writer.{Begins, Puts, Writer, WriterState, ended, innermost, nothing_written}, Written.{just, reference_bytes}}
 use Rattle.rio_write.specs.{Sinks.{Accepted, Accepts, Closes, Opened, OpensIn, StandsWithin}, Writing.{Writes, with_written}}
 use Rattle.rio_write.proofs.WriteLaws.{first_written, just_writes}
 

@@ -3,9 +3,8 @@ use Rattle.std.proofs.Common.{◌≡◌, ℕ, ◌+◌, ◌^◌, pos, List, [], �
 use Rattle.std.specs.Int.{w16, w32, cast_unsigned}
 use Rattle.byteorder.specs.Endian.{big_bytes}
 use Rattle.rio_num.specs.Text.{text_bytes}
-use Rattle.rio_types.specs.{declared.class.ClassDef.{ClassDef}, declared.kind.Kind.TheVariants.{Inline}}
-use Rattle.rio_value.specs.declared.value.Value.{Value, Int, Text, Object}
-use Rattle.rio_value.specs.declared.value.Value.TheOpen as layer
+use Rattle.rio_format.specs.{declared.class.ClassDef.{ClassDef}, declared.kind.Kind.TheVariants.{Inline}, declared.value.Value.{Value, Int, Text, Object}}
+use Rattle.rio_format.specs.declared.value.Value.TheOpen as layer
 use Rattle.rio_format.specs.{Bodies.{part}, Objects.{bare_object, pid_part}, Slots.{kinded}, Written.{Writing, int_bytes, plainly, writing_of, writing_step}}
 use Rattle.rio_format.proofs.{ValueCases.{fold_Int, fold_Text}, WrittenValues.{write_object}}
 use Rattle.rio_write.specs.Small.{IsNamedWithPid, IsObjectWithPid, IsStringWithPid, own_writing}

@@ -4,8 +4,7 @@ use Rattle.std.proofs.{Math.Seq.{drop-append-add, take-append_seam}, lemmas.List
 use Rattle.std.specs.{Prelude.{ℤ}, Int.{w16, cast_unsigned}}
 use Rattle.byteorder.specs.Endian.{big_bytes}
 use Rattle.rio_num.specs.{Text.{text_bytes, short_form, long_form}, declared.no_memory.NoMemory.{NoMemory}}
-use Rattle.rio_buffer.specs.ReaderState.{WordsMet, no_words, with_label}
-use Rattle.rio_buffer.specs.Writer.{Writer, class_bytes, Puts, WriterState, next_place, nothing_written, ended, with_count, counted_from, innermost}
+use Rattle.rio_format.specs.{ReaderState.{WordsMet, no_words, with_label}, Writer.{Writer, class_bytes, Puts, WriterState, next_place, nothing_written, ended, with_count, counted_from, innermost}}
 use Rattle.rio_format.proofs.FieldLaws.{found_first, none_left}
 use Rattle.rio_format.specs.{Slots.{Slot, Field}, Written.{Writing, just, both, all, counted, fields_bytes, headed_bytes}}
 use Rattle.rio_write.specs.Writing.{HasRoom, Writes, pointer_to, with_written}

@@ -2,11 +2,8 @@
 use Rattle.std.proofs.Common.{◌≡◌, ℕ, ℤ, Bool, List, [], ◌∷◌, map, ap, ◌∙◌}
 use Rattle.byteorder.specs.Endian.{big_bytes}
 use Rattle.rio_num.specs.Text.{text_bytes}
-use Rattle.rio_types.specs.declared.class.ClassDef.{ClassDef}
-use Rattle.rio_value.specs.declared.value.Value.{Int, Bits32, Bits64, Bool as Truth, Text, Object, Null, Back, Opaque, TheFolds.{fold-Part, fold_out-Part}}
-use Rattle.rio_value.specs.declared.value.Part.{Part}
-use Rattle.rio_format.specs.{Bodies.{form_of}, Slots.{Slot}}
-use Rattle.rio_format.specs.Written.{Writing, form_bytes, int_bytes, just, reference_bytes, truth_byte, writing_of, writing_step}
+use Rattle.rio_format.specs.{declared.class.ClassDef.{ClassDef}, declared.value.Value.{Int, Bits32, Bits64, Bool as Truth, Text, Object, Null, Back, Opaque, TheFolds.{fold-Part, fold_out-Part}}, declared.value.Part.{Part}}
+use Rattle.rio_format.specs.{Bodies.{form_of}, Slots.{Slot}, Written.{Writing, form_bytes, int_bytes, just, reference_bytes, truth_byte, writing_of, writing_step}}
 use Rattle.rio_format.proofs.ValueCases.{fold_Int, fold_Bits32, fold_Bits64, fold_Bool, fold_Text, fold_Null, fold_Back, fold_Object, fold_Opaque}
 use Rattle.rio_write.specs.Writing.{part_writing}
 

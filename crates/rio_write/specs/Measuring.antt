@@ -1,7 +1,7 @@
 -- How long what is written is.
 use Rattle.std.specs.{Prelude.{◌≡◌, ◌<◌, ◌≤◌, ℕ, ◌+◌, min, is_some, List, [], ◌∷◌, length, Result, Ok, Err}, List.{find, list_any}, Str.{bytes_eq}}
 use Rattle.rio_num.specs.declared.no_memory.NoMemory.{NoMemory}
-use Rattle.rio_buffer.specs.{ReaderState.{WordsMet}, Writer.{Writer, WriterState, next_place}}
+use Rattle.rio_format.specs.{ReaderState.{WordsMet}, Writer.{Writer, WriterState, next_place}}
 
 pub record Measured : Type 0 where
   -- how many bytes are written so far, and one above the limit where they are more

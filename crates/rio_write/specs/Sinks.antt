@@ -1,8 +1,7 @@
 -- What a sink does. It stands for states of writing, and goes on as what is written grows.
 use Rattle.std.specs.Prelude.{◌≡◌, ◌<◌, ◌≤◌, ℕ, ◌+◌, ◌-◌, ◌^◌, List, Bool, IsTrue, length, Some, Result, Ok, Err}
 use Rattle.rio_num.specs.declared.no_memory.NoMemory.{NoMemory}
-use Rattle.rio_buffer.specs.Writer.{Writer, WriterState, counted_from, ended, innermost, next_place}
-use Rattle.rio_format.specs.Written.{just}
+use Rattle.rio_format.specs.{Writer.{Writer, WriterState, counted_from, ended, innermost, next_place}, Written.{just}}
 use Rattle.rio_write.specs.Writing.{HasRoom, with_written}
 
 -- this is written behind each state that it stood for

@@ -1,10 +1,7 @@
 -- The small built-in classes are the same whatever other classes there are.
 use Rattle.std.specs.Prelude.{◌≡◌, ◌<◌, ◌⊎◌, ℕ, ◌^◌, ℤ, pos, List, [], ◌∷◌, codes, true, IsTrue}
-use Rattle.rio_types.specs.{declared.class.ClassDef.{ClassDef}, declared.kind.Kind.TheVariants.{Inline}}
-use Rattle.rio_value.specs.{declared.value.Part.{Part}, declared.value.Value.{Value, Text, Object}}
-use Rattle.rio_format.specs.{Bodies.{part}, Fits.{Fits}, Objects.{bare_object, has_pid, pid_part}, Slots.{kinded}, Written.{writing_of, written_form}}
-use Rattle.rio_format.specs.BuiltIn.{is_small_builtin}
-use Rattle.rio_buffer.specs.{ReaderState.{WordsMet}, Writer.{Writer}}
+use Rattle.rio_format.specs.{declared.class.ClassDef.{ClassDef}, declared.kind.Kind.TheVariants.{Inline}, declared.value.Part.{Part}, declared.value.Value.{Value, Text, Object}}
+use Rattle.rio_format.specs.{Bodies.{part}, Fits.{Fits}, Objects.{bare_object, has_pid, pid_part}, Slots.{kinded}, Written.{writing_of, written_form}, BuiltIn.{is_small_builtin}, ReaderState.{WordsMet}, Writer.{Writer}}
 use Rattle.rio_write.specs.Writing.{IsSmallBuiltin}
 
 -- ---- which objects

@@ -1,10 +1,8 @@
 -- What the writers of objects do.
 use Rattle.std.specs.Prelude.{◌≡◌, ◌<◌, ◌^◌, ℕ, ◌+◌, ◌-◌, ◌%◌, suc, ℤ, pos, negsuc, List, [], ◌++◌, length, IsTrue, Result, Ok, Err}
 use Rattle.rio_num.specs.declared.no_memory.NoMemory.{NoMemory}
-use Rattle.rio_types.specs.declared.class.ClassDef.{ClassDef}
-use Rattle.rio_value.specs.{declared.value.Part.{Part}, declared.value.Value.{Value}}
-use Rattle.rio_format.specs.{Fits.{Fits}, Written.{Writing, both, counted, labelled, writing_of}, BuiltIn.{is_small_builtin}}
-use Rattle.rio_buffer.specs.Writer.{Writer, class_bytes, WriterState, next_place}
+use Rattle.rio_format.specs.{declared.class.ClassDef.{ClassDef}, declared.value.Part.{Part}, declared.value.Value.{Value}, Fits.{Fits}, Written.{Writing, both, counted, labelled, writing_of}, BuiltIn.{is_small_builtin}}
+use Rattle.rio_format.specs.Writer.{Writer, class_bytes, WriterState, next_place}
 
 -- what is written at the next place stands at the end
 unfoldable pub with_written : Writer → WriterState → WriterState

@@ -1,16 +1,12 @@
 //! Objects of the small built-in classes are written: TObject, TNamed, TObjString and the TArrays.
 ghost use Rattle.std.specs.Prelude.{◌≤◌, [], List, length};
-ghost use Rattle.rio_buffer.specs.Writer.{Puts};
-ghost use Rattle.rio_format.specs.Written.{written_form};
-ghost use Rattle.rio_types.specs.declared.class.ClassDef.{ClassDef as Class};
+ghost use Rattle.rio_format.specs.{Writer.{Puts}, Written.{written_form}, declared.class.ClassDef.{ClassDef as Class}};
 ghost use Rattle.rio_write.specs.Small.{IsSmallObject, own_writing};
 ghost use Rattle.rio_write.specs.Writing.{Writes};
 
 use crate::write::write_object;
-use rio_buffer::ObjWriter;
+use rio_format::{Classes, ObjWriter, Value};
 use rio_num::NoMemory;
-use rio_types::Classes;
-use rio_value::Value;
 use std::alloc::Global;
 
 /// The bytes of a TObject, TNamed, TObjString or TArray are put at the end. The value is an object of one

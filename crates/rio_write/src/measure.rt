@@ -2,10 +2,8 @@
 ghost use Rattle.std.specs.Prelude.{◌≡◌, ◌+◌, ◌<◌, false};
 
 use crate::sink::Sink;
+use rio_format::LENGTH_LIMIT;
 use rio_num::{Names, NoMemory, text_length};
-
-/// The greatest length that is told.
-const LIMIT: u64 = 16_777_216;
 
 /// The length of a word that counts the bytes behind it.
 const COUNT_WORD: u64 = 4;
@@ -22,14 +20,14 @@ pub struct Total {
 
 impl Total {
     ghost use Rattle.std.specs.Prelude.{◌≡◌, ◌+◌, min};
-    ghost use Rattle.rio_buffer.specs.Writer.{class_bytes};
+    ghost use Rattle.rio_format.specs.Writer.{class_bytes};
     ghost use Rattle.rio_write.specs.Measuring.{Measures, too_long};
 
     // So many more bytes.
     fn add(&mut self, n: u64)
         ensures { self.new.bytes ≡ min (self.old.bytes + n) too_long }
     {
-        self.bytes = self.bytes.saturating_add(n).min(LIMIT + 1);
+        self.bytes = self.bytes.saturating_add(n).min(LENGTH_LIMIT + 1);
     }
 
     // The word that names a class: it spells the class out where that is named for the first time, and refers to the earlier word

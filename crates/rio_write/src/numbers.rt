@@ -2,16 +2,13 @@
 ghost use Rattle.std.specs.Prelude.{◌≡◌, ◌<◌, [], ◌∷◌};
 ghost use Rattle.std.specs.Int.{w8, w16, w32, w64, cast_unsigned};
 ghost use Rattle.byteorder.specs.Endian.{big_bytes};
-ghost use Rattle.rio_format.specs.Slots.{kinded};
-ghost use Rattle.rio_format.specs.Written.{int_bytes, truth_byte};
-ghost use Rattle.rio_types.specs.declared.kind.Kind.TheVariants.{Plain};
+ghost use Rattle.rio_format.specs.{Slots.{kinded}, Written.{int_bytes, truth_byte}, declared.kind.Kind.TheVariants.{Plain}};
 ghost use Rattle.rio_write.specs.Sinks.{SinkTakes};
 ghost use Rattle.rio_write.specs.Writing.{bits_within};
 
 use crate::sink::Sink;
-use rio_format::{Slot, SlotKind};
+use rio_format::{Prim, Slot, SlotKind};
 use rio_num::NoMemory;
-use rio_types::Prim;
 
 // The bits of a number in an unsigned type that has `size` numbers.
 fn bits_within(n: i128, size: u128) -> u128

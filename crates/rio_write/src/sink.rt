@@ -1,12 +1,11 @@
 //! What is written goes into a sink: the writer of objects takes the bytes, and a `Total` counts them.
 ghost use Rattle.std.specs.Prelude.{◌<◌, ◌^◌, ℕ, List, length, Bool, IsTrue, true};
 ghost use Rattle.byteorder.specs.Endian.{big_bytes};
-ghost use Rattle.rio_buffer.specs.Writer.{WriterState, begun, begun_pointer};
-ghost use Rattle.rio_format.specs.Written.{reference_bytes};
+ghost use Rattle.rio_format.specs.{Writer.{WriterState, begun, begun_pointer}, Written.{reference_bytes}};
 ghost use Rattle.rio_num.specs.Text.{text_bytes};
 ghost use Rattle.rio_write.specs.Sinks.{Accepts, CanClose, CanPoint, Closes, OpensIn, SinkTakes, StandsWithin};
 
-use rio_buffer::{ObjWriter, Open};
+use rio_format::{ObjWriter, Open};
 use rio_num::{Names, NoMemory};
 
 /// What takes what is written. With the names of classes that are spelled out so far, it stands for states

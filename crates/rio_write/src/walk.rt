@@ -1,20 +1,14 @@
 //! The walk over a value: what is written for it goes into a sink.
 ghost use Rattle.std.specs.Prelude.{◌≡◌, List, map};
-ghost use Rattle.rio_types.specs.declared.class.ClassDef.{ClassDef as Class};
-ghost use Rattle.rio_format.specs.Bodies.{form_of};
-ghost use Rattle.rio_format.specs.Slots.{body_fields, declared_body};
+ghost use Rattle.rio_format.specs.{declared.class.ClassDef.{ClassDef as Class}, Bodies.{form_of}, Slots.{body_fields, declared_body}};
 ghost use Rattle.rio_format.specs.Written.{all, number_array_bytes, arrayed_bytes, bare_bytes, body_bytes, counted_bytes, described_bytes, fields_bytes, form_bytes, headed_bytes, link_bytes, list_bytes, listed_bytes, pointed_bytes, writing_of};
 ghost use Rattle.rio_write.specs.Sinks.{Accepts, RoomFor};
 ghost use Rattle.rio_write.specs.Writing.{part_writing};
 
 use crate::numbers::{bits_16, write_bool, write_count, write_int};
 use crate::sink::Sink;
-use rio_format::{
-    Body, BodyKind, Fields, Form, Slot, SlotKind, body_fields, declared_body, form_of,
-};
+use rio_format::{Body, BodyKind, Classes, Fields, Form, Part, Prim, Slot, SlotKind, Value, body_fields, declared_body, form_of};
 use rio_num::{Names, NoMemory};
-use rio_types::{Classes, Prim};
-use rio_value::{Part, Value};
 use std::alloc::Global;
 
 /// The class of an object, and no bytes for another value.

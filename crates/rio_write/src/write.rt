@@ -1,20 +1,13 @@
 //! Objects are written, and how long what is written is.
 ghost use Rattle.std.specs.Prelude.{◌≡◌, ◌≤◌, ◌<◌, ◌+◌, ◌-◌, ◌^◌, ℕ, List, length, min, IfOk, IsTrue};
-ghost use Rattle.rio_format.specs.Written.{written_form};
-ghost use Rattle.rio_format.specs.Fits.{Fits};
-ghost use Rattle.rio_format.specs.Laws.{has_versions};
-ghost use Rattle.rio_format.specs.Objects.{SpellsObject, depth_limit};
+ghost use Rattle.rio_format.specs.{Written.{written_form}, Fits.{Fits}, Laws.{has_versions}, Objects.{SpellsObject, depth_limit}, Depth.{depth_of}};
 ghost use Rattle.rio_num.specs.Room.{room_of};
-ghost use Rattle.rio_value.specs.Depth.{depth_of};
 ghost use Rattle.rio_write.specs.Measuring.{too_long};
 
 use crate::measure::Total;
 use crate::walk::{class_of, write_value};
-use rio_buffer::ObjWriter;
-use rio_format::{Slot, SlotKind};
+use rio_format::{Classes, ObjWriter, Slot, SlotKind, Value};
 use rio_num::{Bytes, Names, NoMemory};
-use rio_types::Classes;
-use rio_value::Value;
 use std::alloc::Global;
 
 /// The bytes that are written for an object whose first byte has the place `start`: the one spelling with

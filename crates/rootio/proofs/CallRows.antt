@@ -3,7 +3,7 @@ use Rattle.std.proofs.Common.{◌≡◌, ◌⊎◌, inl, inr, ⊎_elim, ℕ, ◌
 use Rattle.rio_host.specs.{Host.{Elapses, IsLawful, Leaves, View}, Source.{Input}}
 use Rattle.rio_machine.specs.State.{State}
 use Rattle.rio_step.specs.Runs.{saved_of}
-use Rattle.rio_state.specs.Reads.{ReadsAsState}
+use Rattle.rio_state.specs.{Left.{ReadsClosedUnlessOpen}, Reads.{ReadsAsState}}
 use Rattle.rio_state.proofs.OneState.{reads_one}
 use Rattle.rootio.specs.{Headline.{IsStopOf}, InARow.{AreCalls, Call, CallsInARow, HoldsPrefixOf, IsCallOn, IsUnbegun, LeadsTo, LeavesCalls, run_at}}
 use Rattle.rootio.specs.{Writing.{Beginning, BeginsRun, IsInputOf, KeepsHeadline, run_of_work}, declared.status.Status.{Status}, declared.words.Work.{Work}}
@@ -16,13 +16,21 @@ module _ (file : List ℕ) (m : State) (c : Call) (reads : ReadsAsState file m) 
   same_start = reads_one file c.begins.state m (subst (λ (f : List ℕ). ReadsAsState f c.begins.state) is.file_is is.reads) reads
 
   unbegun : IsUnbegun c → (next : State) × LeadsTo c m next
-  unbegun u = (m, record { reads = subst (λ (f : List ℕ). ReadsAsState f m) (sym (u.image ∙ is.file_is)) reads; prefix = inl (u, refl) })
+  unbegun u = (
+    m,
+    record {
+      reads = subst (λ (f : List ℕ). ReadsAsState f m) (sym (u.image ∙ is.file_is)) reads;
+      closed = λ before. subst (λ (f : List ℕ). ReadsClosedUnlessOpen f m) (sym u.image) before;
+      prefix = inl (u, refl);
+    },
+  )
 
   begun : IsStopOf (run_at c m) c.begins.file c.begins.text c.image c.said → (next : State) × LeadsTo c m next
   begun s = (
     saved_of s.prefix.state,
     record {
       reads = s.prefix.reads;
+      closed = s.prefix.closed;
       prefix = inr (record { j = s.j; k = s.k; replies = s.replies; state = s.prefix.state; state_is = s.prefix.state_is; saved = refl; holds = s.holds; next = s.next });
     },
   )
@@ -31,11 +39,14 @@ module _ (file : List ℕ) (m : State) (c : Call) (reads : ReadsAsState file m) 
   one_call = ⊎_elim unbegun (λ s. begun (subst (λ (n : State). IsStopOf (run_at c n) c.begins.file c.begins.text c.image c.said) same_start s)) is.left
 
 pub calls_lead : CallsInARow
-calls_lead file image m [] reads same = (m, subst (λ (f : List ℕ). ReadsAsState f m) same reads, refl)
+calls_lead file image m [] reads same =
+    (m, subst (λ (f : List ℕ). ReadsAsState f m) same reads, (λ before. subst (λ (f : List ℕ). ReadsClosedUnlessOpen f m) same before), refl)
 calls_lead file image m (c ∷ calls) reads are =
     let one = one_call file m c reads are.0 in
     let others = calls_lead c.image image one.0 calls one.1.reads are.1 in
-    (others.0, others.1, (one.0, one.1, others.2))
+    let closed : ReadsClosedUnlessOpen file m → ReadsClosedUnlessOpen c.image one.0 =
+    λ before. one.1.closed (subst (λ (f : List ℕ). ReadsClosedUnlessOpen f m) (sym are.0.file_is) before) in
+    (others.0, others.1, (λ before. others.2.0 (closed before)), (one.0, one.1, others.2.1))
 
 -- ---- what the headline says of one call
 

@@ -3,7 +3,7 @@ use Rattle.std.proofs.Common.{◌≡◌, ◌∙◌, inl, inr, ℕ, ◌+◌, ◌�
 use Rattle.std.proofs.lemmas.Bool.{eqb-true}
 use Rattle.std.specs.{Prelude.{is_some, option_and_then, unwrap_or}, List.{find, list_any}, Option.{option_map_or}, Str.{bytes_eq}}
 use Rattle.rio_num.specs.Reading.{some_if}
-use Rattle.rio_types.specs.declared.class.ClassDef.{ClassDef}
+use Rattle.rio_format.specs.declared.class.ClassDef.{ClassDef}
 use Rattle.rio_key.specs.declared.head.KeyHead.{KeyHead}
 use Rattle.rio_dir.specs.Table.{key_list_bytes}
 use Rattle.rio_free.specs.Record.{free_bytes}

@@ -5,9 +5,7 @@ use Rattle.std.specs.{Prelude.{is_some, option_and_then, unwrap_or, MatchBool}, 
 use Rattle.byteorder.specs.Endian.{big_number}
 use Rattle.rio_num.specs.{Plain.{IsSpelledIn}, Reading.{◌>>=◌, some_if}, Room.{is_padding}}
 use Rattle.rio_num.proofs.ReadLaws.{bind_ok, if_is, ok_is}
-use Rattle.rio_types.specs.declared.class.ClassDef.{ClassDef}
-use Rattle.rio_value.specs.declared.value.Value.{Value}
-use Rattle.rio_buffer.specs.{Frames.{Step}, ReaderState.{ReaderState}, declared.fault.ObjFault.{ObjFault}}
+use Rattle.rio_format.specs.{declared.class.ClassDef.{ClassDef}, declared.value.Value.{Value}, Frames.{Step}, ReaderState.{ReaderState}, declared.fault.ObjFault.{ObjFault}}
 use Rattle.rio_format.specs.{ClassList.{class_list_at}, Objects.{first_at, only_value, value_at}, TreeClasses.{tree_classes, written_classes}}
 use Rattle.rio_key.specs.{Key.{SpellsKey, is_compressed, key_at}, declared.fault.KeyFault.{KeyFault}, declared.head.KeyHead.{KeyHead}}
 use Rattle.rio_head.specs.{Head.{fault_at, head_at, root_number}, declared.dir.DirRecord.{DirRecord}, declared.fault.FileFault.TheVariants.{BadInfo, Compressed, NotClosed}, declared.fault.HeadFault.{HeadFault}, declared.head.FileHead.{FileHead}}

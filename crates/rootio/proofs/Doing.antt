@@ -2,8 +2,8 @@
 use Rattle.std.proofs.Common.{◌≡◌, inl, inr, ℕ, suc, ◌+◌, ◌<◌, ◌≤◌, false, List, [], ◌∷◌, ◌++◌, length, take, drop, get_or, IsErrOf, Option, Some, Result, Ok, Err, subst, sym, refl, ap, ◌∙◌, arith, append_assoc}
 use Rattle.std.proofs.{lemmas.List.{append-nil, drop-drop, drop_all, get_or_default, take_all}, lemmas.Option.{same_Some, slice_get-get_or}, Math.Seq.{drop-cons}}
 use Rattle.std.specs.Result.{OnOk}
-use Rattle.rio_host.specs.{Host.{Any, Becomes, Elapses, IsLawful, View}, OnlyReads.{Grown}}
-use Rattle.rio_host.proofs.{Moments.{elapses_join}, PiecesLaws.{grown_join}}
+use Rattle.rio_host.specs.{Host.{Any, Becomes, Elapses, IsLawful, View}, OnlyReads.{Grown, OnlyReads}}
+use Rattle.rio_host.proofs.{Moments.{elapses_join}, PiecesLaws.{grown_join}, ReadsLaws.{left_before}}
 use Rattle.rio_chain.specs.{Chains.{HasChain}, Segments.{IsChain, Link}, Stops.{KeepsFront}}
 use Rattle.rio_chain.proofs.OneChain.{chain_one}
 use Rattle.rio_machine.specs.{State.{State}, declared.command.Command.{Command, TheVariants.{Ls}}, declared.command.Outcome.{Outcome}}
@@ -19,8 +19,8 @@ use Rattle.rio_session.proofs.Follows.{follows_costs, follows_datime, follows_na
 use Rattle.rio_session.specs.Session.{IsOpenAs, IsReady, LacksRoomIfFull, LeavesOpenAs, SessionState, StandsFor, Steps, Went, next_of, with_cost}
 use Rattle.rio_session.specs.declared.fault.SessionFault.{SessionFault, TheVariants.{HostFault, SayFault, NoMemory}}
 use Rattle.rio_session.proofs.{Opened.{keeps_own}, Spoken.{grows_none}}
-use Rattle.rootio.specs.{Headline.{IsStopOf, SaidFindRoom, ScriptRun, replies}, Script.{HasDone, session_file_run, session_run}, Writing.{LeavesOpen, StandsUnsaid}}
-use Rattle.rootio.proofs.{Unclosed.{steps_open}, Untouched.{any_join, becomes_same, elapses_none}}
+use Rattle.rootio.specs.{Headline.{IsStopOf, SaidFindRoom, ScriptRun, replies}, Script.{EndsCommands, HasDone, session_file_run, session_run}, Writing.{LeavesOpen, SaysWhole, StandsBetween, StandsUnsaid}}
+use Rattle.rootio.proofs.{Unclosed.{reads_between, steps_open}, Untouched.{any_join, becomes_same, elapses_none}}
 use Rattle.rootio.proofs.Room.{CostsSo, all_find_room, costs_more, no_costs, room_at_fault}
 use Rattle.rootio.proofs.RunStops.{IsNext, behind, behind_next, prefix_at, printed_none, replies_next, step_at, stop_between, stop_within}
 
@@ -295,6 +295,33 @@ leaves_open printing start v new first s commands k c doing law stopped m text s
     let r = session_run printing first stands.state.links m commands in
     let so = doing.sofar m text stands in
     steps_open v new s (behind r k) (text ++ replies r k) doing.ready so.stands law printing (next_of s (behind r k) c) (stopped (behind r k) (text ++ replies r k) so.stands)
+
+-- ---- where a command isn't done
+
+module _ (printing : Replies) (start v new : View) (first s : SessionState) (commands : List Command) (k : ℕ) (within : k ≤ length commands) (doing : Doing printing start v first s commands k)
+    (m : State) (text : List ℕ) (stands : StandsFor start first m text) where
+  abbrev ran : ScriptRun
+  ran = session_run printing first stands.state.links m commands
+
+  -- the replies so far are said
+  abbrev says_so_far : new.said ≡ v.said → SaysWhole ran text new
+  says_so_far same = record { j = k; commands = within; said = same ∙ (doing.sofar m text stands).stands.said }
+
+  -- and the file is that between two commands
+  pub stands_between : IsLawful new → OnlyReads v new → new.said ≡ v.said → StandsBetween ran text new
+  stands_between law only same = record {
+    says = says_so_far same;
+    state = behind ran k;
+    state_is = runs_begin_alike m commands ran.marks k within;
+    left = λ image said left.
+        reads_between v new s (behind ran k) (text ++ replies ran k) doing.ready (doing.sofar m text stands).stands image said (left_before law only image said left);
+  }
+
+  pub ends_at : (e : SessionFault) → IsLawful new → LeavesOpen new → (IsErrOf {T = Outcome} (Err e) NoMemory → OnlyReads v new) → (SaysNothing {X = Outcome} (Err e) → new.said ≡ v.said)
+      → (◌≡◌ {A = Result (Unit {0}) SessionFault} (Err e) (Err SayFault) → StandsUnsaid ran text new) → EndsCommands ran text new (Err e)
+  ends_at HostFault law marked only silent unsaid = (marked, says_so_far (silent tt))
+  ends_at SayFault law marked only silent unsaid = unsaid refl
+  ends_at NoMemory law marked only silent unsaid = stands_between law (only refl) (silent tt)
 
 pub all_done : (printing : Replies) (start v : View) (first s : SessionState) (commands : List Command) (k : ℕ) → length commands ≤ k → Doing printing start v first s commands k
     → (m : State) (text : List ℕ) (stands : StandsFor start first m text) → HasDone (session_run printing first stands.state.links m commands) stands.state.links stands.file first s text v

@@ -3,15 +3,14 @@ use Rattle.std.proofs.Common.{◌≡◌, ◌∙◌, ◌+◌, ◌*◌, ℕ, zero,
 use Rattle.std.proofs.lemmas.List.{append-nil, Sums.{sum_by-cons}}
 use Rattle.std.specs.{Prelude.{nat_lt, option_and_then}, Int.{cast_unsigned}, List.{list_any, sum_by}, Option.{option_map}}
 use Rattle.byteorder.specs.{Endian.{big_bytes}, Numbers.{length-bytes_high_first}}
-use Rattle.rio_buffer.specs.ReaderState.{no_words}
-use Rattle.rio_format.specs.{Bodies.{Counters}, Objects.{depth_limit}, Slots.{kinded}, Written.{Writing, width_in_bits, writing_step}}
+use Rattle.rio_format.specs.{ReaderState.{no_words}, Bodies.{Counters}, Objects.{depth_limit}, Slots.{kinded}, Written.{Writing, width_in_bits, writing_step}}
 use Rattle.rio_format.proofs.ValueCases.{fold_Int}
 use Rattle.rio_gen.specs.Generated.{branch_name, generated_branch, generated_branches, generated_row, generated_value, integer_leaf, numbers_from}
 use Rattle.rio_machine.specs.Limits.{has_long_entry, has_long_list, is_too_deep, is_too_long, list_limit}
 use Rattle.rio_machine.specs.Rows.{columns_bytes, entries_from, entries_of, leaf_column, leaf_numbers_behind}
 use Rattle.rio_model.specs.Resolving.{part_resolved, resolved_row, resolving_step}
-use Rattle.rio_types.specs.{declared.class.ClassDef.{ClassDef}, declared.kind.Kind.TheVariants.{Plain}, declared.kind.Primitive.TheVariants.{I32}}
-use Rattle.rio_value.specs.{Depth.{depth_step}, LongestList.{longest_step}, declared.value.Value.{Value, Int}}
+use Rattle.rio_format.specs.{declared.class.ClassDef.{ClassDef}, declared.kind.Kind.TheVariants.{Plain}, declared.kind.Primitive.TheVariants.{I32}}
+use Rattle.rio_format.specs.{Depth.{depth_step}, LongestList.{longest_step}, declared.value.Value.{Value, Int}}
 
 -- what an entry has in so many branches, from this one on
 abbrev values_from : ℕ → ℕ → ℕ → List Value

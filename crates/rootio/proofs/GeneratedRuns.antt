@@ -17,7 +17,7 @@ use Rattle.rio_step.specs.Costs.{HasFileRoom, accepted_cost, cost_of, costs_of_r
 use Rattle.rio_step.specs.Refusing.{FullMark, fill_row, first_of, is_at_last_cycle, is_bad_row, is_too_large, lacks_class, marked_full, refusal_of, refused_if}
 use Rattle.rio_step.specs.{Runs.{Marks, closed_of, closing_saves, first_mark, first_step, has_pending, later_marks, state_after}, Step.{by_refusal, new_tree, outcome_of, reply_to, state_behind, step, tree_filled, tree_saved}}
 use Rattle.rio_tree.specs.HeaderLength.{header_size}
-use Rattle.rio_value.specs.declared.value.Value.{Value}
+use Rattle.rio_format.specs.declared.value.Value.{Value}
 use Rattle.rio_step.proofs.RunLaws.{drop_later}
 use Rattle.rootio.specs.{GeneratedRuns.{GeneratedFilesAreWhole, IsDone, IsTaken, generated_state, generated_tree, marked_run}, Headline.{AllFindRoom, IsWantOfRoom}}
 use Rattle.rootio.proofs.GeneratedRows.{row_not_deep, row_not_listed, row_not_long, row_resolved, row_weight}

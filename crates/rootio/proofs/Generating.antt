@@ -1,5 +1,5 @@
 -- A generated file: its commands are done, it is closed, and a line of it is said.
-use Rattle.std.proofs.{Common.{◌≡◌, ◌∙◌, inl, inr, ⊎_elim, ℕ, zero, suc, ◌+◌, ◌≤◌, List, [], ◌++◌, take, true, Option, None, Some, Result, Ok, Err, OnOk, subst, sym, refl, ap, arith}, lemmas.{Bool.{and_from}, List.{append-nil}}}
+use Rattle.std.proofs.{Common.{◌≡◌, ◌∙◌, inl, inr, ⊎_elim, ℕ, zero, suc, ◌+◌, ◌≤◌, List, [], ◌++◌, length, take, true, Option, None, Some, Result, Ok, Err, OnOk, subst, sym, refl, ap, arith}, lemmas.{Bool.{and_from}, List.{append-nil}}}
 use Rattle.std.specs.List.{list_all, slice_get}
 use Rattle.rio_chain.specs.Segments.{Link}
 use Rattle.rio_csv.specs.Unread.{TakesFirst}
@@ -19,10 +19,10 @@ use Rattle.rio_step.proofs.RunLaws.{runs_begin_alike}
 use Rattle.rio_step.specs.{Runs.{Marks, saved_of, state_after, states_of_run}, Statable.{is_statable}}
 use Rattle.rio_effect.specs.FileRuns.{file_run}
 use Rattle.rootio.specs.{Generated.{line_of_records}, Generating.{EndsGenerated, GeneratedIsStatable, GeneratesAndSays, IsLineOf, SaysLine, SaysSummary, generated_run}}
-use Rattle.rootio.specs.{Headline.{IsStopOf, SaidFindRoom, ScriptRun, end_state}, Records.{closed_records, without_pending}, Script.{HasClosed, StaysOpenBy, session_closed_records, session_run}, Target.{TargetFile}}
-use Rattle.rootio.specs.Writing.{Beginning, BeginsRun, EndsInClose, EndsUnclosed, StandsClosed, StandsUnsaid, records_of, run_of_work}
+use Rattle.rootio.specs.{Headline.{IsClosedWhereListed, IsStopOf, ReadsAsEnd, SaidFindRoom, ScriptRun, end_state}, Records.{closed_records, without_pending}, Script.{HasClosed, StaysOpenBy, session_closed_records, session_run}, Target.{TargetFile}}
+use Rattle.rootio.specs.Writing.{Beginning, BeginsRun, EndsInClose, EndsUnclosed, SaysWhole, StandsBetween, StandsClosed, StandsUnsaid, records_of, run_of_work}
 use Rattle.rootio.specs.{Script.{status_of_session}, declared.words.Work.TheVariants.{Generate}}
-use Rattle.rootio.proofs.{ClosedSummaries.{closed_files_sum_up}, Idle.{records_idle}, Scripts.{saved_start}}
+use Rattle.rootio.proofs.{ClosedSummaries.{closed_files_sum_up}, Idle.{records_idle}, RunStops.{not_listed}, Scripts.{saved_start}}
 
 -- ---- its commands can be stated
 
@@ -59,14 +59,22 @@ module _ (s : SessionState) (entries : ℕ) (links : List Link) (m : State) wher
   abbrev line : List ℕ
   line = line_of_records entries (session_closed_records s links m (gen_script entries))
 
+  none_taken : (n : ℕ) → take {A = ℕ} n [] ≡ []
+  none_taken zero = refl
+  none_taken (suc n) = refl
+
+  -- the one says nothing
+  none_said : (file text image said : List ℕ) → IsStopOf plain file text image said → said ≡ text
+  none_said file text image said stop = stop.replies.text ∙ ap (λ (l : List ℕ). text ++ l) (none_taken stop.replies.bytes) ∙ append-nil text
+
   -- what a stop leaves of the one, with a front of the line, is left of the other
-  with_front : (file text image said all : List ℕ) (k : ℕ) → IsStopOf plain file text image said → all ≡ said ++ take k line → IsStopOf run file text image all
-  with_front file text image said all k stop is = record {
+  with_front : (file text image said all : List ℕ) (k : ℕ) → IsStopOf plain file text image said → IsClosedWhereListed run text image all → all ≡ said ++ take k line → IsStopOf run file text image all
+  with_front file text image said all k stop listed is = record {
     j = stop.j;
     k = stop.k;
     replies = record {
       bytes = k;
-      text = is ∙ ap (λ (l : List ℕ). l ++ take k line) (stop.replies.text ∙ ap (λ (l : List ℕ). text ++ l) (none_taken stop.replies.bytes) ∙ append-nil text);
+      text = is ∙ ap (λ (l : List ℕ). l ++ take k line) (none_said file text image said stop);
       commands = stop.replies.commands;
       whole = let le : 0 ≤ k = omega arith in le;
       part = λ printed. absurd (not_printed printed);
@@ -74,17 +82,27 @@ module _ (s : SessionState) (entries : ℕ) (links : List Link) (m : State) wher
     prefix = record { state = stop.prefix.state; state_is = stop.prefix.state_is; reads = stop.prefix.reads; closed = stop.prefix.closed };
     holds = stop.holds;
     next = λ printed. absurd (not_printed printed);
+    listed = listed;
   }
     where
-      none_taken : (n : ℕ) → take {A = ℕ} n [] ≡ []
-      none_taken zero = refl
-      none_taken (suc n) = refl
-
       not_printed : Omitted ≡ Printed → ⊥
       not_printed e = cc
 
   without_front : (file text image said : List ℕ) → IsStopOf plain file text image said → IsStopOf run file text image said
-  without_front file text image said stop = with_front file text image said said 0 stop (sym (append-nil said))
+  without_front file text image said stop =
+      with_front file text image said said 0 stop (not_listed run text image said (omega (arith, ap length (none_said file text image said stop)))) (sym (append-nil said))
+
+  -- what was said before it ended
+  says_alike : (before : List ℕ) (new : View) → SaysWhole plain before new → SaysWhole run before new
+  says_alike before new says = record { j = says.j; commands = says.commands; said = says.said }
+
+  between_alike : (before : List ℕ) (new : View) → StandsBetween plain before new → StandsBetween run before new
+  between_alike before new between = record {
+    says = record { j = between.says.j; commands = between.says.commands; said = between.says.said };
+    state = between.state;
+    state_is = between.state_is;
+    left = between.left;
+  }
 
   -- a file that could not be closed
   in_close : (before : List ℕ) (new : View) → EndsInClose plain before new → EndsInClose run before new
@@ -127,6 +145,7 @@ begins_so s entries v ready law file text m stands image said left =
       prefix = record { state = m; state_is = start_state m r.commands r.marks; reads = is_left.reads; closed = λ before. is_left.closed };
       holds = omega arith;
       next = λ printed. absurd (let e : Omitted ≡ Printed = printed in cc);
+      listed = not_listed r text image said (omega (arith, ap length (law.text image said text left stands.said)));
     }
 
 -- ---- the commands that a source has are those of a generated file
@@ -178,9 +197,10 @@ module _ (v1 v2 : View) (s : SessionState) (entries : ℕ) (ready : IsReady v1 s
     where
       by : (m : State) (text : List ℕ) (stands : StandsFor v1 s m text) (f : SessionFault) → StaysOpenBy StandsUnsaid (session_run Omitted s stands.state.links m (gen_script entries)) text v2 (Err f)
           → (◌≡◌ {A = SessionFault} f SayFault → ⊥) → EndsGenerated (generated_run s entries stands.state.links m) text v2 (Err f)
-      by m text stands HostFault stays none = ⊎_elim (λ marked. inl marked) (λ ends. inr (inl (in_close s entries stands.state.links m text v2 ends))) stays
+      by m text stands HostFault stays none =
+          ⊎_elim (λ stops. inl (stops.0, says_alike s entries stands.state.links m text v2 stops.1)) (λ ends. inr (inl (in_close s entries stands.state.links m text v2 ends))) stays
       by m text stands SayFault stays none = absurd (none refl)
-      by m text stands NoMemory stays none = inl stays
+      by m text stands NoMemory stays none = inl (between_alike s entries stands.state.links m text v2 stays)
 
   -- the line behind the close
   module _ (closed : (m : State) (text : List ℕ) (stands : StandsFor v1 s m text) → HasClosed (session_run Omitted s stands.state.links m (gen_script entries)) stands.state.links stands.file s text v2)
@@ -213,7 +233,7 @@ module _ (v1 v2 : View) (s : SessionState) (entries : ℕ) (ready : IsReady v1 s
       left_closed : (image said : List ℕ) → Leaves v4 image said → (before : List ℕ) × Leaves v2 image before
       left_closed image said left = ⊎_elim (λ was. (said, was)) (λ spoken. (spoken.0, spoken.1)) (leaves_back law4 speaks image said left)
 
-      ends_closed : (image said : List ℕ) → Leaves v4 image said → let end = end_state (generated_run s entries stands.state.links m) in ReadsAsState image end × ReadsClosed image end
+      ends_closed : (image said : List ℕ) → Leaves v4 image said → ReadsAsEnd (generated_run s entries stands.state.links m) image
       ends_closed image said left = let was = left_closed image said left in (closed m text stands).left image was.0 was.1
 
       stands_closed : SaysPart v4 (text ++ []) its_line → StandsClosed (generated_run s entries stands.state.links m) text v4
@@ -228,7 +248,7 @@ module _ (v1 v2 : View) (s : SessionState) (entries : ℕ) (ready : IsReady v1 s
           (λ image said spoken.
           let stop : IsStopOf plain_run file text image spoken.0 =
           ⊎_elim (λ was. begins_so s entries v1 ready law1 file text m stands image spoken.0 was) (λ now. now) (leaves_back law2 (stops file text m stands) image spoken.0 spoken.1) in
-          with_front s entries stands.state.links m file text image spoken.0 said spoken.2.0 stop spoken.2.1)
+          with_front s entries stands.state.links m file text image spoken.0 said spoken.2.0 stop (λ long. (closed m text stands).left image spoken.0 spoken.1) spoken.2.1)
 
     -- all replies found room
     finds_room : (m : State) (text : List ℕ) (stands : StandsFor v1 s m text) → s.costs ≡ 0
@@ -279,7 +299,7 @@ pub ends_generated : (target : TargetFile) (entries : ℕ) (ran : ScriptRun) (fi
     → EndsGenerated ran before new r → EndsUnclosed (Generate target entries) ran file before old new (status_of_session r)
 ends_generated target entries ran file before old new (Ok x) ends = tt
 ends_generated target entries ran file before old new (Err HostFault) ends =
-    inr (⊎_elim (λ marked. inl (λ image said left. inr (inr (marked image said left)))) (λ closed. inr closed) ends)
+    ⊎_elim (λ stops. inl (inr (λ image said left. inr (inr (stops.0 image said left))), stops.1)) (λ closed. inr closed) ends
 ends_generated target entries ran file before old new (Err SayFault) ends = ends
 ends_generated target entries ran file before old new (Err NoMemory) ends = inr ends
 

@@ -5,7 +5,7 @@ use Rattle.rio_csv.specs.{Import.{is_save_due, row_commands, save_if}, Rows.{row
 use Rattle.rio_machine.specs.declared.command.Command.{Command}
 use Rattle.rio_num.specs.Word.{is_item_text}
 use Rattle.rio_step.specs.Statable.{is_statable}
-use Rattle.rio_value.specs.declared.value.Value.{Value}
+use Rattle.rio_format.specs.declared.value.Value.{Value}
 use Rattle.rootio.specs.Imports.{ImportsAreStatable}
 
 module _ (name : List ℕ) (item : is_item_text name ≡ true) (every : ℕ) where

@@ -3,7 +3,7 @@ use Rattle.std.proofs.Common.{if◌then◌else◌, ◌≡◌, ◌⊎◌, inl, in
 use Rattle.std.proofs.lemmas.{Bool.{and_parts}, Option.{same_Some}}
 use Rattle.rio_report.specs.declared.item.Item.{Item}
 use Rattle.rio_token.specs.Words.{num_of}
-use Rattle.rio_types.specs.declared.class.Base.{Base}
+use Rattle.rio_format.specs.declared.class.Base.{Base}
 use Rattle.std.specs.{Prelude.{codes, nat_le}, List.{list_all}, Str.{bytes_eq}}
 use Rattle.rootio.specs.{declared.words.Form.{Form, TheVariants.{Reads, Writes}}, declared.words.Listing.TheVariants.{Dump, Scan, Export}}
 use Rattle.rio_cmd.specs.{ImportWords.{gen_of, import_of}, declared.import_words.ImportWords.{ImportWords}}

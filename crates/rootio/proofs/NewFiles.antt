@@ -14,7 +14,7 @@ use Rattle.rootio.specs.{Generating.{RefusesMade}, Headline.{IsStopOf, ScriptRun
 use Rattle.rootio.specs.{Script.{IsFileCause, RunsWork}, Target.{TargetFile}, declared.words.Form.TheVariants.{Writes}, declared.words.Work.{Work, TheVariants.{Generate}}}
 use Rattle.rootio.specs.Writing.{Beginning, BeginsRun, EndsUnclosed, IsFirstReasonFor, RefusesReadOnly, TellsFirstReason, not_new, run_of_work}
 use Rattle.rootio.specs.declared.status.Status.{Status, TheVariants.{Done, Usage, BadFile, DiskFault, InputFault, NoMemory, InputTooLong, ReadOnly, SayFault}}
-use Rattle.rootio.proofs.Room.{silent_room}
+use Rattle.rootio.proofs.{Room.{silent_room}, Scripts.{says_none}}
 
 -- ---- looking, and then something
 
@@ -40,7 +40,7 @@ module _ (v0 v1 : View) (calls : OnlyReads v0 v1) (law : IsLawful v0) where
 -- ---- nothing but looking
 
 module _ (work : Work) (input : List ℕ) (v0 v1 : View) (status : Status) (calls : OnlyReads v0 v1) (law : IsLawful v0) where
-  pub looked_only : (status ≡ Done → ⊥) → ((run : ScriptRun) (file before : List ℕ) → EndsUnclosed work run file before v0 v1 status)
+  pub looked_only : (status ≡ Done → ⊥) → ((run : ScriptRun) (file before : List ℕ) → v1.said ≡ Some before → EndsUnclosed work run file before v0 v1 status)
       → TellsFirstFault HeaderAlone v0 status → RefusesBroken HeaderAlone v0 status → TellsFirstReason (Writes work) v0 status → RefusesReadOnly (Writes work) v0 status → IsFileCause v0 v1 status
       → RunsWork work input v0 v1 status
   looked_only not_done unclosed faults broken reasons read_only cause = record {
@@ -49,7 +49,7 @@ module _ (work : Work) (input : List ℕ) (v0 v1 : View) (status : Status) (call
     room = λ b begins is. silent_room (opening_length b.file) (run_of_work work b) b.text v1 (calls.said ∙ begins.said);
     done = λ b begins is ended. absurd (not_done ended);
     written = λ b begins is ended. absurd (not_done ended);
-    unclosed = λ b begins is. unclosed (run_of_work work b) b.file b.text;
+    unclosed = λ b begins is. unclosed (run_of_work work b) b.file b.text (calls.said ∙ begins.said);
     told = reads_told v0 v1 calls;
     faults = faults;
     broken = broken;
@@ -80,9 +80,10 @@ module _ (work : Work) (input : List ℕ) (v0 v1 v2 : View) (status : Status) (c
   unclosed_later run file before Done ends = tt
   unclosed_later run file before Usage ends = tt
   unclosed_later run file before (BadFile place kind) ends = tt
-  unclosed_later run file before DiskFault ends = ⊎_elim (λ only. inl (reads_join law1 calls only)) (λ other. inr other) ends
+  unclosed_later run file before DiskFault ends =
+      ⊎_elim (λ stopped. inl (⊎_elim (λ only. inl (reads_join law1 calls only)) (λ leaves. inr leaves) stopped.0, stopped.1)) (λ other. inr other) ends
   unclosed_later run file before InputFault ends = tt
-  unclosed_later run file before NoMemory ends = ⊎_elim (λ only. inl (reads_join law1 calls only)) (λ other. inr other) ends
+  unclosed_later run file before NoMemory ends = ⊎_elim (λ stopped. inl (reads_join law1 calls stopped.0, stopped.1)) (λ other. inr other) ends
   unclosed_later run file before InputTooLong ends = tt
   unclosed_later run file before (ReadOnly place reason) ends = tt
   unclosed_later run file before SayFault ends = ends
@@ -149,14 +150,14 @@ module _ (target : TargetFile) (entries : ℕ) (v0 v1 : View) (calls : OnlyReads
   -- a call on the file failed
   pub look_failed : Rose v0.disk_faults v1.disk_faults → RunsWork (Generate target entries) [] v0 v1 DiskFault
   look_failed rose =
-      looked_only (Generate target entries) [] v0 v1 DiskFault calls law (λ e. absurd cc) (λ run file before. inl calls)
+      looked_only (Generate target entries) [] v0 v1 DiskFault calls law (λ e. absurd cc) (λ run file before said. inl (inl calls, says_none run before v1 said))
       (λ place kind e file here. absurd cc) (λ fault file here e. tt) (λ place reason e file here. absurd cc) (λ against file here e. tt)
       (rose, calls.say_faults)
 
   module _ (made : Told v0 (λ file. is_unborn file ≡ false)) where
     bad_header : (place : ℕ) (kind : FileFault) → RefusesMade v0 v1 (BadFile place kind) → RunsWork (Generate target entries) [] v0 v1 (BadFile place kind)
     bad_header place kind refuses =
-        looked_only (Generate target entries) [] v0 v1 (BadFile place kind) calls law (λ e. absurd cc) (λ run file before. tt)
+        looked_only (Generate target entries) [] v0 v1 (BadFile place kind) calls law (λ e. absurd cc) (λ run file before said. tt)
         (λ p k e file here.
         let one : place ≡ p = cc in
         let other : kind ≡ k = cc in
@@ -176,7 +177,7 @@ module _ (target : TargetFile) (entries : ℕ) (v0 v1 : View) (calls : OnlyReads
     not_a_new_one : (place : ℕ) (reason : Reason) → RefusesMade v0 v1 (ReadOnly place reason) → RunsWork (Generate target entries) [] v0 v1 (ReadOnly place reason)
     not_a_new_one place reason refuses =
         let at : reason_at place reason ≡ not_new = λ i. reason_at (refuses.1 i) (refuses.2 i) in
-        looked_only (Generate target entries) [] v0 v1 (ReadOnly place reason) calls law (λ e. absurd cc) (λ run file before. tt)
+        looked_only (Generate target entries) [] v0 v1 (ReadOnly place reason) calls law (λ e. absurd cc) (λ run file before said. tt)
         (λ p kind e file here. absurd cc)
         (λ fault file here e.
         let none = none_if_made file (refuses.0 file here).0 (made file here) (refuses.0 file here).1 in

@@ -26,7 +26,7 @@ use Rattle.rootio.specs.Script.{HasClosed, IsFileCause, RunsWork, session_closed
 use Rattle.rootio.specs.Writing.{Beginning, BeginsRun, EndsUnclosed, IsFirstReasonFor, IsOpenHeader, RefusesFile, RefusesReadOnly, TellsFirstReason, records_of, run_of_work, target_of}
 use Rattle.rootio.specs.{declared.status.Status.TheVariants.{Done, BadFile, NoMemory, ReadOnly}, declared.words.Form.TheVariants.{Writes}}
 use Rattle.rootio.specs.declared.words.Work.{Work}
-use Rattle.rootio.proofs.{Room.{silent_room}, SaidFronts.{said_front}, Scripts.{OpensAs, stop_opening}, ReasonsFor.{Takes, reason_given, reason_taken}}
+use Rattle.rootio.proofs.{Room.{silent_room}, SaidFronts.{said_front}, Scripts.{OpensAs, says_none, stop_opening}, ReasonsFor.{Takes, reason_given, reason_taken}}
 use Rattle.rootio.proofs.Untouched.{any_join, becomes_same, elapses_none}
 
 -- ---- nothing was done
@@ -41,7 +41,7 @@ nothing_done work input v = record {
   room = λ b begins is. silent_room (opening_length b.file) (run_of_work work b) b.text v begins.said;
   done = λ b begins is ended. absurd cc;
   written = λ b begins is ended. absurd cc;
-  unclosed = λ b begins is. inl (reads_none v);
+  unclosed = λ b begins is. inl (reads_none v, says_none (run_of_work work b) b.text v begins.said);
   told = becomes_same v.holds;
   faults = λ place kind is. absurd cc;
   broken = λ fault file here e. tt;
@@ -95,12 +95,12 @@ module _ (work : Work) (v0 v1 : View) where
   open_answer NotRoomy untouched refuses = absurd refuses
   open_answer NotOpened untouched refuses = absurd refuses
 
-  open_unclosed : (run : ScriptRun) (file before : List ℕ) (fault : OpenFault) → LeavesFileOrUnclosed file v1
+  open_unclosed : (run : ScriptRun) (file before : List ℕ) (fault : OpenFault) → LeavesFileOrUnclosed file v1 → v1.said ≡ Some before
       → (IsNotOpened {X = SessionState} (Err fault) → OnlyReads v0 v1) → EndsUnclosed work run file before v0 v1 (status_of_open fault)
-  open_unclosed run file before (FileBad p k) leaves untouched = tt
-  open_unclosed run file before (FileReadOnly p r) leaves untouched = tt
-  open_unclosed run file before NotRoomy leaves untouched = inl (untouched tt)
-  open_unclosed run file before NotOpened leaves untouched = inr (inl leaves)
+  open_unclosed run file before (FileBad p k) leaves said untouched = tt
+  open_unclosed run file before (FileReadOnly p r) leaves said untouched = tt
+  open_unclosed run file before NotRoomy leaves said untouched = inl (untouched tt, says_none run before v1 said)
+  open_unclosed run file before NotOpened leaves said untouched = inl (inr leaves, says_none run before v1 said)
 
   open_cause : (fault : OpenFault) → IsOpenCause {X = SessionState} v0 v1 (Err fault) → IsFileCause v0 v1 (status_of_open fault)
   open_cause (FileBad p k) cause = (cause.0, cause.1.0, cause.1.1)
@@ -137,7 +137,7 @@ not_opened work input v0 v1 fault takes opens unclosed why spared untouched told
   room = λ b begins is. silent_room (opening_length b.file) (run_of_work work b) b.text v1 (same ∙ begins.said);
   done = λ b begins is ended. absurd (not_done work v0 v1 fault ended);
   written = λ b begins is ended. absurd (not_done work v0 v1 fault ended);
-  unclosed = λ b begins is. open_unclosed work v0 v1 (run_of_work work b) b.file b.text fault (unclosed b.file begins.quiet begins.holds) untouched;
+  unclosed = λ b begins is. open_unclosed work v0 v1 (run_of_work work b) b.file b.text fault (unclosed b.file begins.quiet begins.holds) (same ∙ begins.said) untouched;
   told = told;
   faults = open_faults work v0 v1 fault why;
   broken = open_broken work v0 v1 fault why;

@@ -14,9 +14,9 @@ use Rattle.rio_session.specs.Session.{ClosesAs, IsReady, SessionState, StandsFor
 use Rattle.rio_session.specs.declared.fault.SessionFault.{SessionFault, TheVariants.{HostFault, SayFault, NoMemory}}
 use Rattle.rio_session.specs.declared.replies.Replies.TheVariants.{Printed}
 use Rattle.rio_session.proofs.{CloseStates.{holds_closed_file}, Opened.{keeps_own}, Spoken.{front_part, grows_none, grows_whole}}
-use Rattle.rootio.specs.{Headline.{AllFindRoom, IsStopOf, SaidFindRoom, ScriptRun, all_replies, all_texts, end_state}, Script.{ClosesAndSays, listing_run, session_closed_records}}
+use Rattle.rootio.specs.{Headline.{AllFindRoom, IsStopOf, ReadsAsEnd, SaidFindRoom, ScriptRun, all_replies, all_texts, end_state}, Script.{ClosesAndSays, listing_run, session_closed_records}}
 use Rattle.rootio.specs.{Target.{TargetFile}, Writing.{Beginning, BeginsRun, StandsClosed, records_of, run_of_work, without_pending}, declared.words.Work.TheVariants.{Recover}}
-use Rattle.rootio.proofs.{Idle.{none_saved, nothing_left, records_idle}, OrderedKeys.{keys_one}, Scripts.{saved_start}, RunStops.{stop_closing}, Unclosed.{close_open, closes_none, stands_open}, Untouched.{becomes_same, elapses_none}}
+use Rattle.rootio.proofs.{Idle.{none_saved, nothing_left, records_idle}, OrderedKeys.{keys_one}, Scripts.{saved_start, says_none}, RunStops.{end_of_commands, stop_closing}, Unclosed.{close_open, closes_none, reads_between}, Untouched.{becomes_same, elapses_none}}
 
 abbrev some_text : List ℕ → Option (List ℕ)
 some_text l = Some l
@@ -56,9 +56,9 @@ module _ (s : SessionState) (lines : List ℕ) (links : List Link) (m : State) w
       stop_closing run file text image said (subst (λ (l : List ℕ). ClosesAs m l image said) (sym (replies_none text)) closes)
 
   -- while the lines are said
-  stop_behind_close : (file text image before said : List ℕ) (k : ℕ) → ClosesAs m text image before → said ≡ before ++ take k lines → IsStopOf run file text image said
+  stop_behind_close : (file text image before said : List ℕ) (k : ℕ) → ClosesAs m text image before → ReadsAsEnd run image → said ≡ before ++ take k lines → IsStopOf run file text image said
   unfolding said_of
-  stop_behind_close file text image before said k closes is =
+  stop_behind_close file text image before said k closes ends is =
       let stop = stop_within_close file text image before closes in
       record {
         j = 0;
@@ -73,6 +73,7 @@ module _ (s : SessionState) (lines : List ℕ) (links : List Link) (m : State) w
         prefix = stop.prefix;
         holds = omega arith;
         next = λ printed lt. absurd (omega (arith, lt));
+        listed = λ long. ends;
       }
 
   -- no reply is want of room
@@ -86,7 +87,14 @@ pub no_lines : (v : View) (s : SessionState) (lines : List ℕ) → IsReady v s 
 no_lines v s lines ready = record {
   stops = λ file text m stands. elapses_none v (IsStopOf (listing_run s lines stands.state.links m) file text);
   done = tt;
-  unclosed = λ m text stands. stands_open v v s m text ready stands;
+  unclosed = λ m text stands.
+      let r = listing_run s lines stands.state.links m in
+      record {
+        says = says_none r text v stands.said;
+        state = m;
+        state_is = end_of_commands r ∙ ap Some (sym (state_is s lines stands.state.links m));
+        left = reads_between v v s m text ready stands;
+      };
   told = becomes_same v.holds;
   said = grows_none v.said v.said refl;
   cause = (refl, refl);
@@ -128,19 +136,22 @@ module _ (v1 v2 : View) (s : SessionState) (lines : List ℕ) (ready : IsReady v
     left_closed : (image said : List ℕ) → Leaves v3 image said → (before : List ℕ) × Leaves v2 image before
     left_closed image said left = ⊎_elim (λ was. (said, was)) (λ spoken. (spoken.0, spoken.1)) (leaves_back law3 speaks image said left)
 
+    reads_end : (m : State) (text : List ℕ) (stands : StandsFor v1 s m text) (image said : List ℕ) → Leaves v2 image said
+        → ReadsAsEnd (listing_run s lines stands.state.links m) image
+    reads_end m text stands image said left =
+        subst (λ (x : State). ReadsAsState image x × ReadsClosed image x) (sym (end_is s lines stands.state.links m)) (closed m text stands image said left)
+
     saying : (file text : List ℕ) (m : State) (stands : StandsFor v1 s m text) → Elapses v1 v3 (IsStopOf (listing_run s lines stands.state.links m) file text)
     saying file text m stands =
         elapses_join (Speaking lines v2) (closed_stops file text m stands) speaks
         (λ image said spoken.
         let closes : ClosesAs m text image spoken.0 =
         ⊎_elim (λ was. closes_none m text v1 s ready law1 stands image spoken.0 was) (λ now. now) (leaves_back law2 (time m text stands) image spoken.0 spoken.1) in
-        stop_behind_close s lines stands.state.links m file text image spoken.0 said spoken.2.0 closes spoken.2.1)
+        stop_behind_close s lines stands.state.links m file text image spoken.0 said spoken.2.0 closes (reads_end m text stands image spoken.0 spoken.1) spoken.2.1)
 
     ends_closed : (m : State) (text : List ℕ) (stands : StandsFor v1 s m text) → (image said : List ℕ) → Leaves v3 image said
-        → let end = end_state (listing_run s lines stands.state.links m) in ReadsAsState image end × ReadsClosed image end
-    ends_closed m text stands image said left =
-        let was = left_closed image said left in
-        subst (λ (x : State). ReadsAsState image x × ReadsClosed image x) (sym (end_is s lines stands.state.links m)) (closed m text stands image was.0 was.1)
+        → ReadsAsEnd (listing_run s lines stands.state.links m) image
+    ends_closed m text stands image said left = let was = left_closed image said left in reads_end m text stands image was.0 was.1
 
     well_closed : (m : State) (text : List ℕ) (stands : StandsFor v1 s m text) → (image said : List ℕ) → Leaves v3 image said
         → IsWellClosed s.name s.datime stands.file (saved_records s.datime (file_records s stands.state.links) m).links image

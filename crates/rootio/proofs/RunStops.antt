@@ -1,5 +1,5 @@
 -- What a stop leaves of a run: between two commands, within one, and within the close.
-use Rattle.std.proofs.Common.{◌≡◌, inl, inr, ℕ, zero, suc, ◌+◌, ◌<◌, ◌≤◌, List, [], ◌∷◌, ◌++◌, length, length-append, length-take, take, drop, get_or, sym, refl, ap, ◌∙◌, arith, append_assoc}
+use Rattle.std.proofs.Common.{◌≡◌, inl, inr, ℕ, zero, suc, ◌+◌, ◌<◌, ◌≤◌, List, [], ◌∷◌, ◌++◌, length, length-append, length-take, take, drop, get_or, Some, sym, refl, ap, ◌∙◌, arith, append_assoc}
 use Rattle.std.proofs.{lemmas.Bool.{cases_lt}, lemmas.List.{append-nil, take_all, take-append-le, take_more}}
 use Rattle.std.specs.List.{slice_get}
 use Rattle.rio_machine.specs.{State.{State}, declared.command.Command.{Command, TheVariants.{Ls}}}
@@ -7,7 +7,7 @@ use Rattle.rio_step.proofs.RunLaws.{drop_later, each_says, replies_say_something
 use Rattle.rio_step.specs.{ReplyText.{text_of}, Runs.{Marks, first_step, later_marks, said_of, saved_of, state_after, states_of_run}, Step.{Stepped}}
 use Rattle.rio_state.specs.Left.{IsLeftAs}
 use Rattle.rio_session.specs.{Replying.{printed_of, reply_text}, Session.{ClosesAs}, declared.replies.Replies.{Replies, TheVariants.{Printed, Omitted}}}
-use Rattle.rootio.specs.Headline.{HasSaid, HoldsPrefix, IsPrinted, IsStopOf, ScriptRun, all_replies, all_texts, replies}
+use Rattle.rootio.specs.Headline.{HasSaid, HoldsPrefix, IsClosedWhereListed, IsPrinted, IsStopOf, ScriptRun, all_replies, all_texts, replies}
 
 -- ---- what is printed
 
@@ -117,7 +117,19 @@ replies_keep r k within =
     let next : IsNext r k (get_or r.commands k Ls) = record { within = within; is = refl } in
     omega (arith, replies_longer r k (get_or r.commands k Ls) next)
 
+-- the first replies aren't longer than all of them
+replies_most : (r : ScriptRun) (k : ℕ) → length (replies r k) ≤ length (all_replies r)
+replies_most r k =
+    let later = said_of (behind r k) (drop k r.commands) (drop k r.marks) in
+    let whole : all_replies r ≡ replies r k ++ printed_of r.replies later =
+    printed_join r.replies (said_of r.start (take k r.commands) r.marks) later (said_of r.start r.commands r.marks) (said_in_parts r.start r.commands r.marks k) in
+    omega (arith, ap length whole ∙ length-append (replies r k) (printed_of r.replies later))
+
 -- ---- at a stop
+
+-- nothing of the listing was said
+pub not_listed : (r : ScriptRun) (before image said : List ℕ) → length said ≤ length before + length (all_replies r) → IsClosedWhereListed r before image said
+not_listed r before image said short long = absurd (omega (arith, short, long))
 
 pub prefix_at : (r : ScriptRun) (file image : List ℕ) (k : ℕ) → k ≤ length r.commands → IsLeftAs (saved_of (behind r k)) image → HoldsPrefix r file image k
 prefix_at r file image k within left = record {
@@ -147,6 +159,7 @@ stop_between r file before image said k within prefix is = record {
   prefix = prefix;
   holds = omega arith;
   next = λ printed lt. omega arith;
+  listed = not_listed r before image said (omega (arith, ap length is ∙ length-append before (replies r k), replies_most r k));
 }
 
 module _ (r : ScriptRun) (k : ℕ) (c : Command) (next : IsNext r k c) where
@@ -169,6 +182,12 @@ module _ (r : ScriptRun) (k : ℕ) (c : Command) (next : IsNext r k c) where
     part = λ printed lt. omega (arith, short, replies_longer r k c next);
   }
 
+  within_replies : (before said : List ℕ) (q : ℕ) → q < length reply → said ≡ (before ++ replies r k) ++ take q reply → length said ≤ length before + length (all_replies r)
+  within_replies before said q short is =
+      let parts : length said ≡ length before + length (replies r k) + length (take q reply) =
+      ap length is ∙ length-append (before ++ replies r k) (take q reply) ∙ ap (λ n. n + length (take q reply)) (length-append before (replies r k)) in
+      omega (arith, parts, length-take q reply, short, replies_longer r k c next, replies_most r (k + 1))
+
   -- while the reply is said
   pub stop_within : (file before image said : List ℕ) (q : ℕ) → HoldsPrefix r file image (k + 1)
       → said ≡ (before ++ replies r k) ++ take q reply → IsStopOf r file before image said
@@ -180,6 +199,7 @@ module _ (r : ScriptRun) (k : ℕ) (c : Command) (next : IsNext r k c) where
       prefix = prefix;
       holds = omega arith;
       next = λ printed lt. omega arith;
+      listed = not_listed r before image said (within_replies before said q short is);
     }
     | inr whole ↦
         stop_between r file before image said (k + 1) (omega (arith, next.within)) prefix
@@ -189,8 +209,14 @@ module _ (r : ScriptRun) (k : ℕ) (c : Command) (next : IsNext r k c) where
 
 -- ---- within the close
 
-replies_whole : (r : ScriptRun) → replies r (length r.commands) ≡ all_replies r
+pub replies_whole : (r : ScriptRun) → replies r (length r.commands) ≡ all_replies r
 replies_whole r = ap (λ cs. printed_of r.replies (said_of r.start cs r.marks)) (take_all (length r.commands) r.commands (omega arith))
+
+-- the state behind all commands
+pub end_of_commands : (r : ScriptRun) → slice_get (states_of_run r.start r.commands r.marks) (length r.commands) ≡ Some (state_after r.start r.commands r.marks)
+end_of_commands r =
+    runs_begin_alike r.start r.commands r.marks (length r.commands) (omega arith)
+    ∙ ap (λ (cs : List Command). Some (state_after r.start cs r.marks)) (take_all (length r.commands) r.commands (omega arith))
 
 pub stop_closing : (r : ScriptRun) (file before image said : List ℕ)
     → ClosesAs (state_after r.start r.commands r.marks) (before ++ all_replies r) image said → IsStopOf r file before image said
@@ -206,4 +232,5 @@ stop_closing r file before image said closes = record {
   };
   holds = omega arith;
   next = λ printed lt. absurd (omega (arith, lt));
+  listed = not_listed r before image said (omega (arith, ap length closes.text_is ∙ length-append before (all_replies r)));
 }

@@ -18,7 +18,7 @@ use Rattle.rio_state.specs.Trees.{TreesBeside, all_places_named, are_named_once,
 use Rattle.rio_cmd.specs.declared.import_words.ImportWords.{ImportWords}
 use Rattle.rio_session.specs.declared.replies.Replies.{Replies}
 use Rattle.rootio.specs.{Headline.{HoldsPrefix, IsStopOf, ScriptRun, replies}, Records.{closed_records, without_pending}, Script.{session_closed_records, session_run}, Target.{TargetFile}}
-use Rattle.rootio.specs.Writing.{Beginning, BeginsRun, IsListingOf, commands_of, records_behind, records_of, replies_of, run_of_work, target_of}
+use Rattle.rootio.specs.Writing.{Beginning, BeginsRun, IsListingOf, SaysWhole, commands_of, records_behind, records_of, replies_of, run_of_work, target_of}
 use Rattle.rootio.specs.declared.words.Work.{Work, TheVariants.{Run, Import}}
 use Rattle.rootio.proofs.{Idle.{records_idle}, RunStops.{behind, printed_none, stop_between}}
 
@@ -73,6 +73,14 @@ behind_start r = refl
 replies_start : (r : ScriptRun) → replies r 0 ≡ []
 unfolding said_of
 replies_start r = printed_none r.replies
+
+-- where nothing was said, no reply was begun
+abbrev pub says_none : (r : ScriptRun) (text : List ℕ) (v : View) → v.said ≡ Some text → SaysWhole r text v
+says_none r text v said = record {
+  j = 0;
+  commands = omega arith;
+  said = said ∙ ap (λ (l : List ℕ). Some l) (sym (append-nil text) ∙ ap (λ (l : List ℕ). text ++ l) (sym (replies_start r)));
+}
 
 -- what a stop leaves then: the state at the start, and nothing said
 abbrev pub OpensAs : List ℕ → List ℕ → State → List ℕ → List ℕ → Type 0

@@ -13,7 +13,7 @@ use Rattle.rootio.specs.declared.status.Status.{Status, TheVariants.{Done, Usage
 use Rattle.rootio.specs.{declared.words.Form.TheVariants.{Writes}, declared.words.Work.{Work, TheVariants.{Run, Recover, Import, Generate}}}
 use Rattle.rio_session.specs.Opening.{opening_length}
 use Rattle.rio_session.proofs.Spoken.{front_none}
-use Rattle.rootio.proofs.{Opening.{spares_same}, Room.{silent_room}, Untouched.{becomes_same, elapses_none}}
+use Rattle.rootio.proofs.{Opening.{spares_same}, Room.{silent_room}, Scripts.{says_none}, Untouched.{becomes_same, elapses_none}}
 
 -- ---- no input
 
@@ -27,7 +27,7 @@ record IsBefore (status : Status) : Type 0 where
   refuses : RefusesFile status → ⊥
   past : IsPastInput status → ⊥
 
-untouched : (work : Work) (v : View) (before after : Input) (status : Status) → IsBefore status → ((run : ScriptRun) (file text : List ℕ) → EndsUnclosed work run file text v v status)
+untouched : (work : Work) (v : View) (before after : Input) (status : Status) → IsBefore status → ((run : ScriptRun) (file text : List ℕ) → v.said ≡ Some text → EndsUnclosed work run file text v v status)
     → TellsTooLong before status → RefusesTooLong (Some (Writes work)) before status → IsCause (Some (Writes work)) v v before after status → WorksOn work v v before after status
 untouched work v before after status is unclosed too_long limited cause = record {
   writes = record {
@@ -38,7 +38,7 @@ untouched work v before after status is unclosed too_long limited cause = record
       done = λ b begins told ended. absurd (is.done ended);
       written = λ b begins ended. absurd (is.done ended);
       records = λ b begins told ended. absurd (is.done ended);
-      unclosed = λ b begins told. unclosed (run_of_work work b) b.file b.text;
+      unclosed = λ b begins told. unclosed (run_of_work work b) b.file b.text begins.said;
       input = λ input takes told past. absurd (is.past past);
       order = λ input takes told. inr (reads_none v, refl);
       told = becomes_same v.holds;
@@ -58,19 +58,19 @@ untouched work v before after status is unclosed too_long limited cause = record
 pub no_memory : (work : Work) (v : View) (before after : Input) → NoInputFault before after → WorksOn work v v before after NoMemory
 no_memory work v before after none =
     untouched work v before after NoMemory
-    (record { done = λ e. cc; bad = λ place kind e. cc; read_only = λ place reason e. cc; broken = λ fault. tt; kept = λ against. tt; refuses = λ r. r; past = λ p. p }) (λ run file text. inl (reads_none v))
+    (record { done = λ e. cc; bad = λ place kind e. cc; read_only = λ place reason e. cc; broken = λ fault. tt; kept = λ against. tt; refuses = λ r. r; past = λ p. p }) (λ run file text said. inl (reads_none v, says_none run text v said))
     (λ e. absurd cc) (λ reads bytes told long. tt) (refl, refl, none)
 
 pub no_input : (work : Work) → takes_input work ≡ true → (v : View) (before after : Input) (error : InputError) → ReadsAll before after (Err error)
     → WorksOn work v v before after (status_of_input error)
 no_input work takes v before after Fault read =
     untouched work v before after InputFault
-    (record { done = λ e. cc; bad = λ place kind e. cc; read_only = λ place reason e. cc; broken = λ fault. tt; kept = λ against. tt; refuses = λ r. r; past = λ p. p }) (λ run file text. tt)
+    (record { done = λ e. cc; bad = λ place kind e. cc; read_only = λ place reason e. cc; broken = λ fault. tt; kept = λ against. tt; refuses = λ r. r; past = λ p. p }) (λ run file text said. tt)
     (λ e. absurd cc) (λ reads bytes told long. tt) (takes, refl, refl, read)
 no_input work takes v before after OutOfMemory read = no_memory work v before after read
 no_input work takes v before after TooLong read =
     untouched work v before after InputTooLong
-    (record { done = λ e. cc; bad = λ place kind e. cc; read_only = λ place reason e. cc; broken = λ fault. tt; kept = λ against. tt; refuses = λ r. r; past = λ p. p }) (λ run file text. tt)
+    (record { done = λ e. cc; bad = λ place kind e. cc; read_only = λ place reason e. cc; broken = λ fault. tt; kept = λ against. tt; refuses = λ r. r; past = λ p. p }) (λ run file text said. tt)
     (λ e. read.0) (λ reads bytes told long. tt) (takes, (refl, refl, read.1))
 
 -- ---- all of it

@@ -11,7 +11,7 @@ use Rattle.rio_session.specs.{Causes.{IsSessionCause}, Session.{SessionState, St
 use Rattle.rio_session.specs.declared.fault.SessionFault.{SessionFault, TheVariants.{HostFault, SayFault as NotSaid, NoMemory as OutOfMemory}}
 use Rattle.rio_step.specs.Statable.{is_statable}
 use Rattle.rootio.specs.{Generated.{line_of_records}, Headline.{IsStopOf, SaidFindRoom, ScriptRun}, Script.{HasClosed, session_closed_records, session_file_run}}
-use Rattle.rootio.specs.Writing.{EndsInClose, LeavesOpen, StandsClosed}
+use Rattle.rootio.specs.Writing.{EndsInClose, LeavesOpen, SaysWhole, StandsBetween, StandsClosed}
 use Rattle.rootio.specs.declared.status.Status.{Status, TheVariants.{Done, Usage, BadFile, DiskFault, InputFault, NoMemory, InputTooLong, ReadOnly, SayFault}}
 
 -- a line of a script can state each command
@@ -67,9 +67,9 @@ generated_run s entries links m = record {
 -- How it ends early: the file is open, or its close failed; or it is closed, and the line could not be made or said.
 abbrev pub EndsGenerated : ScriptRun → List ℕ → View → Result (Unit {0}) SessionFault → Type 0
 EndsGenerated r before new (Ok x) = Unit {0}
-EndsGenerated r before new (Err HostFault) = LeavesOpen new ⊎ (EndsInClose r before new ⊎ StandsClosed r before new)
+EndsGenerated r before new (Err HostFault) = (LeavesOpen new × SaysWhole r before new) ⊎ (EndsInClose r before new ⊎ StandsClosed r before new)
 EndsGenerated r before new (Err NotSaid) = StandsClosed r before new
-EndsGenerated r before new (Err OutOfMemory) = LeavesOpen new ⊎ StandsClosed r before new
+EndsGenerated r before new (Err OutOfMemory) = StandsBetween r before new ⊎ StandsClosed r before new
 
 pub record GeneratesAndSays (old new : View) (s : SessionState) (entries : ℕ) (result : Result (Unit {0}) SessionFault) : Type 0 where
   pub stops : (file text : List ℕ) (m : State) (stands : StandsFor old s m text)

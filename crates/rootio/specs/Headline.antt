@@ -67,7 +67,16 @@ pub record HoldsPrefix (r : ScriptRun) (file image : List ℕ) (k : ℕ) : Type 
   pub reads : ReadsAsState image (saved_of state)
   pub closed : ReadsClosedUnlessOpen file r.start → ReadsClosedUnlessOpen image (saved_of state)
 
--- An image and the text of its moment: each command whose reply was said whole is held, and of the others at most the next one.
+-- the image reads as the last state, by the walk and by the key list
+abbrev pub ReadsAsEnd : ScriptRun → List ℕ → Type 0
+ReadsAsEnd r image = ReadsAsState image (end_state r) × ReadsClosed image (end_state r)
+
+-- Of the listing something was said only once the file was closed.
+abbrev pub IsClosedWhereListed : ScriptRun → List ℕ → List ℕ → List ℕ → Type 0
+IsClosedWhereListed r before image said = length before + length (all_replies r) < length said → ReadsAsEnd r image
+
+-- An image and the text of its moment: each command whose reply was said whole is held, and of the others at most the next one. Where
+-- something of the listing was said, all is held, and the file is closed.
 pub record IsStopOf (r : ScriptRun) (file before image said : List ℕ) : Type 0 where
   pub j : ℕ
   pub k : ℕ
@@ -75,6 +84,7 @@ pub record IsStopOf (r : ScriptRun) (file before image said : List ℕ) : Type 0
   pub prefix : HoldsPrefix r file image k
   pub holds : j ≤ k
   pub next : IsPrinted r → j < length r.commands → k ≤ j + 1
+  pub listed : IsClosedWhereListed r before image said
 
 -- ---- at the end
 
@@ -99,5 +109,5 @@ SaidFindRoom opened r before new = (said : List ℕ) → new.said ≡ Some said 
 pub record IsRunDone (r : ScriptRun) (file before : List ℕ) (new : View) : Type 0 where
   pub quiet : IsQuiet new
   pub said : new.said ≡ Some (before ++ all_texts r)
-  pub left : (image said : List ℕ) → Leaves new image said → ReadsAsState image (end_state r) × ReadsClosed image (end_state r)
+  pub left : (image said : List ℕ) → Leaves new image said → ReadsAsEnd r image
   pub room : AllFindRoom (opening_length file) r

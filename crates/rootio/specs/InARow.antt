@@ -3,7 +3,7 @@ use Rattle.std.specs.Prelude.{◌≡◌, ◌⊎◌, ◌<◌, ◌≤◌, ℕ, ◌
 use Rattle.rio_host.specs.{Host.{View}, Source.{Input}}
 use Rattle.rio_machine.specs.State.{State}
 use Rattle.rio_step.specs.Runs.{saved_of}
-use Rattle.rio_state.specs.Reads.{ReadsAsState}
+use Rattle.rio_state.specs.{Left.{ReadsClosedUnlessOpen}, Reads.{ReadsAsState}}
 use Rattle.rio_session.specs.Opening.{OpensWith}
 use Rattle.rootio.specs.{Headline.{HasSaid, IsPrinted, IsStopOf, ScriptRun, states}, Writing.{Beginning, BeginsRun, IsInputOf, IsListingOf, run_of_work, target_of}, declared.words.Work.{Work}}
 
@@ -56,9 +56,11 @@ pub record HoldsPrefixOf (c : Call) (m n : State) : Type 0 where
   pub holds : j ≤ k
   pub next : IsPrinted (run_at c m) → j < length (run_at c m).commands → k ≤ j + 1
 
--- A call leads to the state as which its image reads: that of a prefix, or that of before, where it said nothing.
+-- A call leads to the state as which its image reads: that of a prefix, or that of before, where it said nothing. By the key list an image that isn't
+-- marked as open reads as that state too, if the file before the call did so, or was marked as open.
 pub record LeadsTo (c : Call) (m n : State) : Type 0 where
   pub reads : ReadsAsState c.image n
+  pub closed : ReadsClosedUnlessOpen c.begins.file m → ReadsClosedUnlessOpen c.image n
   pub prefix : (IsUnbegun c × (n ≡ m)) ⊎ HoldsPrefixOf c m n
 
 -- and so on, call by call
@@ -66,7 +68,8 @@ abbrev pub AllLeadTo : List Call → State → State → Type 0
 AllLeadTo [] m n = n ≡ m
 AllLeadTo (c ∷ calls) m n = (next : State) × LeadsTo c m next × AllLeadTo calls next n
 
--- After any list of calls the last image reads as the state to which they lead, one after the other.
+-- After any list of calls the last image reads as the state to which they lead, one after the other, by the walk, and unless it is marked as open
+-- by the key list too.
 abbrev pub CallsInARow : Type 0
 CallsInARow = (file image : List ℕ) (m : State) (calls : List Call) → ReadsAsState file m → AreCalls file calls image
-    → (n : State) × ReadsAsState image n × AllLeadTo calls m n
+    → (n : State) × ReadsAsState image n × (ReadsClosedUnlessOpen file m → ReadsClosedUnlessOpen image n) × AllLeadTo calls m n

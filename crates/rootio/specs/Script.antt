@@ -6,7 +6,6 @@ use Rattle.rio_report.specs.FirstFault.{HeaderAlone}
 use Rattle.rio_close.specs.Causes.{NoDiskFault, NoSayFault}
 use Rattle.rio_machine.specs.{State.{State}, declared.command.Command.{Command}}
 use Rattle.rio_step.specs.Runs.{state_after}
-use Rattle.rio_state.specs.Reads.{ReadsAsState, ReadsClosed}
 use Rattle.rio_chain.specs.{Chains.{HasChain}, Segments.{Link}, Stops.{KeepsFront}}
 use Rattle.rio_effect.specs.FileRuns.{FileRun, file_run}
 use Rattle.rio_session.specs.{Behind.{SaysPart}, Causes.{IsSessionCause}, Closes.{IsWellClosed}, Opening.{opening_length}, Session.{SessionState, StandsFor, file_records}}
@@ -14,9 +13,9 @@ use Rattle.rio_session.specs.declared.replies.Replies.{Replies, TheVariants.{Pri
 use Rattle.rio_session.specs.declared.fault.OpenFault.{OpenFault, TheVariants.{BadFile as FileBad, ReadOnly as FileReadOnly, NoMemory as NotRoomy, HostFault as NotOpened}}
 use Rattle.rio_session.specs.declared.fault.SessionFault.{SessionFault, TheVariants.{HostFault, SayFault as NotSaid, NoMemory as OutOfMemory}}
 use Rattle.rootio.specs.{Causes.{IsCause}, Input.{RefusesTooLong, TellsTooLong}}
-use Rattle.rootio.specs.Headline.{AllFindRoom, IsRunDone, IsStopOf, SaidFindRoom, ScriptRun, all_replies, all_texts, end_state}
+use Rattle.rootio.specs.Headline.{AllFindRoom, IsRunDone, IsStopOf, ReadsAsEnd, SaidFindRoom, ScriptRun, all_replies, all_texts}
 use Rattle.rootio.specs.Reading.{RefusesBroken, TellsFirstFault}
-use Rattle.rootio.specs.Writing.{Beginning, BeginsRun, EndsInClose, EndsUnclosed, EndsWriting, LeavesOpen, LeavesRun, RefusesReadOnly, SparesRefused, StandsClosed, TellsFirstReason, closed_records, run_of_work}
+use Rattle.rootio.specs.Writing.{Beginning, BeginsRun, EndsInClose, EndsUnclosed, EndsWriting, LeavesOpen, LeavesRun, RefusesReadOnly, SaysWhole, SparesRefused, StandsBetween, StandsClosed, StandsUnsaid, TellsFirstReason, closed_records, run_of_work}
 use Rattle.rootio.specs.declared.status.Status.{Status, TheVariants.{Done, Usage, BadFile, DiskFault, InputFault, NoMemory, InputTooLong, ReadOnly, SayFault}}
 use Rattle.rootio.specs.{declared.words.Form.TheVariants.{Writes}, declared.words.Work.{Work}}
 
@@ -68,18 +67,25 @@ pub record HasDone (r : ScriptRun) (links : List Link) (file : List ℕ) (first 
 pub record HasClosed (r : ScriptRun) (links : List Link) (file : List ℕ) (first : SessionState) (before : List ℕ) (new : View) : Type 0 where
   pub quiet : IsQuiet new
   pub said : new.said ≡ Some (before ++ all_texts r)
-  pub left : (image said : List ℕ) → Leaves new image said → ReadsAsState image (end_state r) × ReadsClosed image (end_state r)
+  pub left : (image said : List ℕ) → Leaves new image said → ReadsAsEnd r image
   pub written : (image said : List ℕ) → Leaves new image said
       → IsWellClosed first.name first.datime file (session_closed_records first links r.start r.commands) image
   pub room : first.costs ≡ 0 → AllFindRoom first.opened r
+
+-- How the commands of a script ended early: where a disk fails, no reply is torn, and each crash image is marked as open.
+abbrev pub EndsCommands : ScriptRun → List ℕ → View → Result (Unit {0}) SessionFault → Type 0
+EndsCommands r before new (Ok x) = Unit {0}
+EndsCommands r before new (Err HostFault) = LeavesOpen new × SaysWhole r before new
+EndsCommands r before new (Err NotSaid) = StandsUnsaid r before new
+EndsCommands r before new (Err OutOfMemory) = StandsBetween r before new
 
 -- A session that ended without a close, as it does where it finds no memory, can't say a text or its disk fails, leaves a file
 -- marked as open, and where it can't say a text what is told here; unless it is the close whose disk fails, behind all commands.
 abbrev pub StaysOpenBy : (ScriptRun → List ℕ → View → Type 0) → ScriptRun → List ℕ → View → Result (Unit {0}) SessionFault → Type 0
 StaysOpenBy unsaid r before new (Ok x) = Unit {0}
-StaysOpenBy unsaid r before new (Err HostFault) = LeavesOpen new ⊎ EndsInClose r before new
+StaysOpenBy unsaid r before new (Err HostFault) = (LeavesOpen new × SaysWhole r before new) ⊎ EndsInClose r before new
 StaysOpenBy unsaid r before new (Err NotSaid) = unsaid r before new
-StaysOpenBy unsaid r before new (Err OutOfMemory) = LeavesOpen new
+StaysOpenBy unsaid r before new (Err OutOfMemory) = StandsBetween r before new
 
 -- the run of no command from a session on, with these lines said after the close
 abbrev pub listing_run : SessionState → List ℕ → List Link → State → ScriptRun

@@ -4,7 +4,7 @@ use Rattle.std.specs.{List.{list_all}, Str.{bytes_eq}}
 use Rattle.rio_num.specs.Word.{is_item_text, is_name_text}
 use Rattle.rio_cmd.specs.ImportWords.{IsImport, gen_of, import_of}
 use Rattle.rio_token.specs.Words.{num_between_of, num_of}
-use Rattle.rio_types.specs.declared.class.Base.{Base}
+use Rattle.rio_format.specs.declared.class.Base.{Base}
 use Rattle.rio_report.specs.declared.item.Item.{Item}
 use Rattle.rootio.specs.{declared.words.Form.{Form, TheVariants.{Reads, Writes}}, declared.words.Listing.TheVariants.{Ls, Dump, Scan, Export}}
 use Rattle.rootio.specs.{declared.words.Work.{Work, TheVariants.{Run, Recover, Import, Generate}}, Target.{TargetFile}}

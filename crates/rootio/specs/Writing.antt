@@ -1,11 +1,11 @@
 -- What the verbs that write do: their commands, and what they leave of the file.
-use Rattle.std.specs.Prelude.{◌≡◌, ◌⊎◌, ℕ, ◌+◌, List, [], ◌++◌, length, slice_get, true, Option, Some, None, MatchBool}
+use Rattle.std.specs.Prelude.{◌≡◌, ◌⊎◌, ◌≤◌, ℕ, ◌+◌, List, [], ◌++◌, length, slice_get, true, Option, Some, None, MatchBool}
 use Rattle.rio_head.specs.declared.reason.Reason.{Reason, TheVariants.{NotNew}}
 use Rattle.rio_host.specs.{Host.{Any, Becomes, Elapses, IsQuiet, Leaves, View}, OnlyReads.{OnlyReads}, Source.{Input}}
 use Rattle.rio_key.specs.declared.head.KeyHead.{KeyHead}
 use Rattle.rio_dir.specs.{Listing.{key_lines}, Unborn.{header_fault, is_unborn}}
 use Rattle.rio_machine.specs.{State.{State}, declared.command.Command.{Command}}
-use Rattle.rio_state.specs.{Closing.{name_in}, DirectoryKeys.{AreKeysOf}, KeyedRecords.{keyed_records}, Left.{IsMarkedOpen, open_end}, Reads.{ReadsAsState, ReadsClosed}, Reasons.{IsFirstReason, ReasonAt, reason_at}}
+use Rattle.rio_state.specs.{Closing.{name_in}, DirectoryKeys.{AreKeysOf}, KeyedRecords.{keyed_records}, Left.{IsMarkedOpen, open_end}, Reads.{ReadsAsState}, Reasons.{IsFirstReason, ReasonAt, reason_at}}
 use Rattle.rio_step.specs.{Runs.{saved_of}, Script.{script_of}}
 use Rattle.rio_chain.specs.Segments.{Link}
 use Rattle.rio_close.specs.EndWord.{SaysEnd}
@@ -15,7 +15,7 @@ use Rattle.rio_gen.specs.Generated.{gen_script}
 use Rattle.rio_create.specs.NewFile.{new_file}
 use Rattle.rio_session.specs.{Behind.{SaysPart}, Closes.{IsWellClosed}, Opening.{LeavesFileOrUnclosed, OpensWith, SparesFile, opening_length}}
 use Rattle.rio_session.specs.{Replying.{reply_text}, declared.replies.Replies.{Replies, TheVariants.{Printed, Omitted}}}
-use Rattle.rootio.specs.{Headline.{IsRunDone, IsStopOf, SaidFindRoom, ScriptRun, all_replies, all_texts, end_state, replies, reply_at, states}, Input.{IsPastInput}}
+use Rattle.rootio.specs.{Headline.{IsRunDone, IsStopOf, ReadsAsEnd, SaidFindRoom, ScriptRun, all_replies, all_texts, replies, reply_at, states}, Input.{IsPastInput}}
 use Rattle.rootio.specs.{Generated.{generated_line}, Reading.{takes_input}, Target.{TargetFile}}
 pub use Rattle.rootio.specs.Records.{closed_records, file_run_from, without_pending}
 use Rattle.rootio.specs.declared.status.Status.{Status, TheVariants.{Done, Usage, BadFile, DiskFault, InputFault, NoMemory, InputTooLong, ReadOnly, SayFault}}
@@ -88,6 +88,20 @@ pub record SparesRefused (work : Work) (old new : View) (status : Status) : Type
 abbrev pub LeavesOpen : View → Type 0
 LeavesOpen v = (image said : List ℕ) → Leaves v image said → IsMarkedOpen image
 
+-- The replies of the first commands were said, whole, and nothing else.
+pub record SaysWhole (r : ScriptRun) (before : List ℕ) (new : View) : Type 0 where
+  pub j : ℕ
+  pub commands : j ≤ length r.commands
+  pub said : new.said ≡ Some (before ++ replies r j)
+
+-- The run ended between two commands, whose replies were said up to there: each file that a stop leaves now is marked as open and
+-- reads as the state between them.
+pub record StandsBetween (r : ScriptRun) (before : List ℕ) (new : View) : Type 0 where
+  pub says : SaysWhole r before new
+  pub state : State
+  pub state_is : slice_get (states r) says.j ≡ Some state
+  pub left : (image said : List ℕ) → Leaves new image said → ReadsAsState image (saved_of state) × IsMarkedOpen image
+
 -- A reply could not be said, but for a front of it, behind those of all commands before. What its command does is done: each file
 -- that a stop leaves now is marked as open and reads as the state behind it.
 pub record StandsUnsaid (r : ScriptRun) (before : List ℕ) (new : View) : Type 0 where
@@ -103,7 +117,7 @@ pub record StandsUnsaid (r : ScriptRun) (before : List ℕ) (new : View) : Type 
 -- last state, by the walk and by the key list.
 pub record StandsClosed (r : ScriptRun) (before : List ℕ) (new : View) : Type 0 where
   pub text : SaysPart new (before ++ all_replies r) r.listing
-  pub left : (image said : List ℕ) → Leaves new image said → ReadsAsState image (end_state r) × ReadsClosed image (end_state r)
+  pub left : (image said : List ℕ) → Leaves new image said → ReadsAsEnd r image
 
 -- the image reads as a state of the close: behind all commands and some of the closing saves, without pending rows
 pub record IsOfClose (r : ScriptRun) (image : List ℕ) : Type 0 where
@@ -132,17 +146,18 @@ EndsRead (Import target words) r before new = ⊥
 EndsRead (Generate target entries) r before new = StandsClosed r before new
 
 -- How a run ends early. If a reply can't be printed, what its command did stands, and the file isn't closed; if the listing can't be
--- printed, the file is closed. If memory runs out, nothing was written, or each crash image is marked as open. If the disk fails, a crash
--- image is the file of before, isn't made yet or is marked as open; or it is the close that failed, behind all commands. With either
--- fault a generated file may also be closed and not yet read again.
+-- printed, the file is closed. If memory runs out, nothing was written or printed, or the run ended between two commands: each reply before was
+-- printed, and none is lost. If the disk fails, no reply is torn, and a crash image is the file of before, isn't made yet or is marked as
+-- open; or it is the close that failed, behind all commands. With either fault a generated file may also be closed and not yet read again.
 abbrev pub EndsUnclosed : Work → ScriptRun → List ℕ → List ℕ → View → View → Status → Type 0
 EndsUnclosed work r file before old new Done = Unit {0}
 EndsUnclosed work r file before old new Usage = Unit {0}
 EndsUnclosed work r file before old new (BadFile place kind) = Unit {0}
 EndsUnclosed work r file before old new DiskFault =
-    OnlyReads old new ⊎ (LeavesFileOrUnclosed file new ⊎ (EndsInClose r before new ⊎ EndsRead work r before new))
+    ((OnlyReads old new ⊎ LeavesFileOrUnclosed file new) × SaysWhole r before new) ⊎ (EndsInClose r before new ⊎ EndsRead work r before new)
 EndsUnclosed work r file before old new InputFault = Unit {0}
-EndsUnclosed work r file before old new NoMemory = OnlyReads old new ⊎ (LeavesOpen new ⊎ EndsRead work r before new)
+EndsUnclosed work r file before old new NoMemory =
+    (OnlyReads old new × SaysWhole r before new) ⊎ (StandsBetween r before new ⊎ EndsRead work r before new)
 EndsUnclosed work r file before old new InputTooLong = Unit {0}
 EndsUnclosed work r file before old new (ReadOnly place reason) = Unit {0}
 EndsUnclosed work r file before old new SayFault = EndsUnsaid work r before new

@@ -1,6 +1,6 @@
 //! A class in a version, as a word of the command line names it.
 use rio_num::{Name, NoMemory};
-use rio_types::Base;
+use rio_format::Base;
 use std::alloc::Global;
 use std::marker::Model;
 
@@ -12,7 +12,7 @@ pub struct ClassWord<'a> {
 }
 
 impl<'a> Model for ClassWord<'a> {
-    ghost use Rattle.rio_types.specs.declared.class.Base.{Base};
+    ghost use Rattle.rio_format.specs.declared.class.Base.{Base};
 
     ghost Value = { Base };
 

@@ -9,8 +9,8 @@ ghost use Rattle.rio_session.specs.Causes.{IsSessionCause};
 ghost use Rattle.rio_session.specs.Session.{IsReady, StandsFor};
 ghost use Rattle.rio_session.specs.declared.fault.SessionFault.{SessionFault as Fault};
 ghost use Rattle.rootio.specs.Headline.{IsStopOf, SaidFindRoom};
-ghost use Rattle.rootio.specs.Script.{HasClosed, HasDone, RunsWork, StaysOpenBy, run_from, status_of_open, status_of_session};
-ghost use Rattle.rootio.specs.Writing.{LeavesOpen, StandsUnsaid};
+ghost use Rattle.rootio.specs.Script.{EndsCommands, HasClosed, HasDone, RunsWork, StaysOpenBy, run_from, status_of_open, status_of_session};
+ghost use Rattle.rootio.specs.Writing.{StandsUnsaid};
 ghost use Rattle.rootio.specs.declared.words.Work.{Work};
 
 use crate::status::Status;
@@ -40,11 +40,9 @@ fn do_commands<H: Host>(
         → (stands : StandsFor (H.view host.old) session.old m text)
         → HasDone (run_from stands commands.now) stands.state.links stands.file
         session.old session.new text (H.view host.new)) }
-    ensures unclosed { OnErr result ((m : State) (text : List ℕ)
-        → StandsFor (H.view host.old) session.old m text → LeavesOpen (H.view host.new)) }
-    ensures unsaid { IsErrOf result Fault.SayFault → (m : State) (text : List ℕ)
+    ensures unclosed { (m : State) (text : List ℕ)
         → (stands : StandsFor (H.view host.old) session.old m text)
-        → StandsUnsaid (run_from stands commands.now) text (H.view host.new) }
+        → EndsCommands (run_from stands commands.now) text (H.view host.new) result }
     ensures ready { OnOk result (IsReady (H.view host.new) session.new) }
     ensures fresh { OnOk result (session.new.failed ≡ false) }
     ensures told { Becomes Any (H.view host.old).holds (H.view host.new).holds }

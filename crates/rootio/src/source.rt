@@ -13,8 +13,8 @@ ghost use Rattle.rio_session.specs.FileSteps.{IsStepTold, RecordsBecome};
 ghost use Rattle.rio_session.specs.Session.{IsReady, StandsFor};
 ghost use Rattle.rio_session.specs.declared.fault.SessionFault.{SessionFault as Fault};
 ghost use Rattle.rootio.specs.Headline.{IsStopOf, SaidFindRoom};
-ghost use Rattle.rootio.specs.Script.{HasClosed, HasDone, StaysOpenBy, commands_in, run_by};
-ghost use Rattle.rootio.specs.Writing.{LeavesOpen, StandsUnsaid};
+ghost use Rattle.rootio.specs.Script.{EndsCommands, HasClosed, HasDone, StaysOpenBy, commands_in, run_by};
+ghost use Rattle.rootio.specs.Writing.{StandsUnsaid};
 
 use rio_csv::ImportScript;
 use rio_host::Host;
@@ -90,12 +90,9 @@ pub fn do_from<H: Host, C: CommandSource>(
         → (stands : StandsFor (H.view host.old) session.old m text)
         → HasDone (run_by replies stands (commands_in (C.left commands.old)))
         stands.state.links stands.file session.old session.new text (H.view host.new)) }
-    ensures unclosed { OnErr result ((m : State) (text : List ℕ)
-        → StandsFor (H.view host.old) session.old m text → LeavesOpen (H.view host.new)) }
-    ensures unsaid { IsErrOf result Fault.SayFault → (m : State) (text : List ℕ)
+    ensures unclosed { (m : State) (text : List ℕ)
         → (stands : StandsFor (H.view host.old) session.old m text)
-        → StandsUnsaid (run_by replies stands (commands_in (C.left commands.old))) text
-        (H.view host.new) }
+        → EndsCommands (run_by replies stands (commands_in (C.left commands.old))) text (H.view host.new) result }
     ensures ready { OnOk result (IsReady (H.view host.new) session.new) }
     ensures fresh { OnOk result (session.new.failed ≡ false) }
     ensures told { Becomes Any (H.view host.old).holds (H.view host.new).holds }

@@ -8,7 +8,7 @@ use rio_info::{info_length, write_info};
 use rio_key::KeyHead;
 use rio_num::{Bytes, NoMemory, Numbers};
 use rio_recover::{RecoverFault, Recovered, is_unborn, recover};
-use rio_types::{ClassDef, Classes};
+use rio_format::{ClassDef, Classes};
 use std::alloc::Global;
 
 // The text `hi` under the name `s`, with cycle 1, at 268.

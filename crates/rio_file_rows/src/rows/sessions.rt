@@ -10,7 +10,7 @@ use rio_machine::Command;
 use rio_num::{Bytes, Name, NoMemory, Numbers};
 use rio_session::{OpenFault, Session, SessionFault};
 use rio_valtext::read_value;
-use rio_value::Value;
+use rio_format::Value;
 use std::alloc::Global;
 
 // Place, length and entries of the free record behind END, where two such records are stored.

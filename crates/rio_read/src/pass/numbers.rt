@@ -1,14 +1,11 @@
 //! Passing over numbers, lists of them and texts.
 ghost use Rattle.rio_num.specs.At.{GoesOn};
-ghost use Rattle.rio_buffer.specs.Frames.{ReadsAs};
-ghost use Rattle.rio_format.specs.Objects.{counted_values, filled, number_value, numbers, text_value};
+ghost use Rattle.rio_format.specs.{Frames.{ReadsAs}, Objects.{counted_values, filled, number_value, numbers, text_value}};
 ghost use Rattle.rio_num.specs.Layout.{times};
 ghost use Rattle.rio_num.specs.Meanings.{read};
 ghost use Rattle.rio_read.specs.Passing.{pass_of};
 
-use rio_buffer::{ObjFault, ObjReader};
-use rio_format::width_of;
-use rio_types::Prim;
+use rio_format::{ObjFault, ObjReader, Prim, width_of};
 
 /// Passes over the next number, or truth value, of this kind.
 #[tactic(auto, using(crate::proofs::Passing::one_number))]

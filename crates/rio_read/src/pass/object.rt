@@ -2,9 +2,7 @@
 //! of objects inside.
 ghost use Rattle.std.specs.Prelude.{[], pos};
 ghost use Rattle.rio_num.specs.At.{GoesOn};
-ghost use Rattle.rio_buffer.specs.Frames.{ReadsAs};
-ghost use Rattle.rio_buffer.specs.Reader.{IsCounted};
-ghost use Rattle.rio_format.specs.Bodies.{body_of, form_of};
+ghost use Rattle.rio_format.specs.{Frames.{ReadsAs}, Reader.{IsCounted}, Bodies.{body_of, form_of}};
 ghost use Rattle.rio_format.specs.Objects.{array_parts, base_part, body, formed, headed, kind_value, link, list_parts, member_parts, object_of, parts, pointer, whole_object};
 ghost use Rattle.rio_num.specs.Layout.{each, times};
 ghost use Rattle.rio_num.specs.Meanings.{read};
@@ -15,9 +13,7 @@ use super::plain::{
     pass_array, pass_bare, pass_base, pass_counter, pass_named, pass_obj_string, pass_opaque,
 };
 use crate::numbers::read_count;
-use rio_buffer::{Header, ObjFault, ObjReader, PointerWord};
-use rio_format::{BodyKind, Counters, Form, body_of, form_of};
-use rio_types::{Base, ClassDef, Classes, Kind, Member, Prim};
+use rio_format::{Base, BodyKind, ClassDef, Classes, Counters, Form, Header, Kind, Member, ObjFault, ObjReader, PointerWord, Prim, body_of, form_of};
 use std::alloc::Global;
 
 /// Passes over an object of the class.

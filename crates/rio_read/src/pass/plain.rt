@@ -1,19 +1,14 @@
 //! Passing over what has no objects inside, or a TObject alone.
 ghost use Rattle.std.specs.Prelude.{codes};
 ghost use Rattle.rio_num.specs.At.{GoesOn};
-ghost use Rattle.rio_buffer.specs.Frames.{ReadsAs};
-ghost use Rattle.rio_buffer.specs.Reader.{IsCounted};
-ghost use Rattle.rio_format.specs.Bodies.{t_named, t_obj_string};
-ghost use Rattle.rio_format.specs.Objects.{number_array, bare_layout, object_of, parts, unread};
+ghost use Rattle.rio_format.specs.{Frames.{ReadsAs}, Reader.{IsCounted}, Bodies.{t_named, t_obj_string}, Objects.{number_array, bare_layout, object_of, parts, unread}};
 ghost use Rattle.rio_num.specs.Meanings.{read};
 ghost use Rattle.rio_read.specs.Passing.{counters_with_next, pass_of};
 
 use super::numbers::pass_list;
 use crate::numbers::read_count;
-use rio_buffer::{Header, ObjFault, ObjReader};
-use rio_format::{Counters, width_of};
+use rio_format::{Classes, Counters, Header, ObjFault, ObjReader, Prim, width_of};
 use rio_num::Name;
-use rio_types::{Classes, Prim};
 
 /// Passes over a TObject.
 #[tactic(auto, unfolding(rio_format::specs::Objects::bare_layout))]

@@ -7,7 +7,7 @@ mod written;
 
 use crate::rows::hex::hex_bytes;
 use crate::rows::printed::printed_classes;
-use rio_buffer::ObjFault;
+use rio_format::ObjFault;
 use rio_info::read_info;
 use rio_num::{Bytes, NoMemory};
 use std::alloc::Global;

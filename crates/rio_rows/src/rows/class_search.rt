@@ -1,6 +1,6 @@
 //! Classes by name, version and checksum, copies of classes, and lists of classes that are the same.
 use crate::rows::classes::{ClassRow, Holds, classes_of};
-use rio_types::{ClassDef, Classes};
+use rio_format::{ClassDef, Classes};
 use std::alloc::Global;
 
 // The class `Node` in two versions, one of them twice.

@@ -1,16 +1,23 @@
 //! A copy of a value.
-use crate::rows::objects::values::{Tree, value_of};
-use rio_value::{Value, copy, depth, longest_list};
+use crate::rows::hex::hex_bytes;
+use rio_format::{Classes, ObjFault, Value, copy, depth, longest_list};
+use rio_stream::read_object;
 use std::alloc::Global;
 
-// A list of a pointer and of an object that wasn't read.
-const NESTED: Tree = Tree::List(&[
-    Tree::At(0, &Tree::Object("Node", 1, &[("text", Tree::Text("hi"))])),
-    Tree::Opaque("Odd", 12),
-]);
+// A TObjArray with a name, of a pointer to an object that isn't read, and null.
+const ARRAY: &str = "40000030 0003 0001 00000000 00000000 02 6869 00000002 00000000 \
+     40000011 FFFFFFFF 4E6F626F647900 40000002 0001 00000000";
+
+fn array(alloc: Global) -> Result<Value, ObjFault> {
+    let bytes = hex_bytes(alloc, ARRAY)?;
+    if bytes.len() > 100 {
+        return Err(ObjFault::NoMemory);
+    }
+    read_object(alloc, &Classes::new(alloc), b"TObjArray", bytes.as_slice(), 34)
+}
 
 fn is_same(copied: &Value, value: &Value) -> bool {
-    copied == value && *copied != Value::Null && depth(copied) == 1 && longest_list(copied) == 2
+    copied == value && *copied != Value::Null && depth(copied) == 2 && longest_list(copied) == 2
 }
 
 fn is_copied(alloc: Global, value: &Value) -> bool {
@@ -20,8 +27,8 @@ fn is_copied(alloc: Global, value: &Value) -> bool {
     }
 }
 
-fn nested_is_copied(alloc: Global) -> bool {
-    match value_of(alloc, &NESTED) {
+fn array_is_copied(alloc: Global) -> bool {
+    match array(alloc) {
         Ok(value) => is_copied(alloc, &value),
         Err(_) => false,
     }
@@ -29,5 +36,5 @@ fn nested_is_copied(alloc: Global) -> bool {
 
 #[test]
 fn copies_a_value(rt: HostRuntime) {
-    assert!(rt; nested_is_copied(rt.alloc()));
+    assert!(rt; array_is_copied(rt.alloc()));
 }

@@ -5,9 +5,8 @@ mod printed;
 use crate::rows::classes::{ClassRow, Holds, base_of, classes_of, is_text, member_of};
 use printed::printed_element;
 use rio_describe::{JudgedLists, base_element, member_element, tree_classes};
-use rio_format::ClassLists;
+use rio_format::{ClassDef, ClassLists, Classes, Prim};
 use rio_num::{Bytes, NoMemory};
-use rio_types::{ClassDef, Classes, Prim};
 use std::alloc::Global;
 
 // Members of Node, version 3, with class and version, code, size, array, and type of their elements, and what these add.

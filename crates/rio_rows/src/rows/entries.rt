@@ -1,167 +1,205 @@
-//! Entries of branches of leaves.
-mod checked;
+//! Entries that are whole, and entries that break at a place: `check_entry` and `entry_numbers` return what `read_entry` does.
 mod numbered;
-mod objects;
 
+use crate::rows::classes::{ClassRow, Holds, classes_of, name_of};
 use crate::rows::leaf_lists::branch_of_row;
-use rio_entry::{read_entry, write_entry};
-use rio_leaf::BranchDef;
-use rio_num::NoMemory;
-use rio_types::Classes;
-use rio_value::{Value, Values};
+use rio_entry::{EntryFault, check_entry, entry_numbers, read_entry};
+use rio_leaf::{BranchDef, LeafFault, Shape};
+use rio_num::{Name, NoMemory};
+use rio_format::{Classes, Prim, Value, Values};
 use std::alloc::Global;
 
-// A value that is no list, and a value of a row.
-enum Single {
-    Int(i128),
-    Word(u32),
-    Long(u64),
-    Bool(bool),
-    Text(&'static str),
-}
+// The classes `Node 1 { val: i32, next: Node* }` and `C 1 { n: i32, v: f32[n] }`.
+static CLASSES: [ClassRow; 2] = [
+    ClassRow {
+        name: "Node",
+        version: 1,
+        sum: 0,
+        bases: &[],
+        members: &[
+            ("val", Holds::Plain(Prim::I32)),
+            ("next", Holds::Pointer("Node")),
+        ],
+        title: "",
+    },
+    ClassRow {
+        name: "C",
+        version: 1,
+        sum: 0,
+        bases: &[],
+        members: &[("n", Holds::Counter), ("v", Holds::Counted(Prim::F32, "n"))],
+        title: "",
+    },
+];
 
-enum Said {
-    One(Single),
-    List(&'static [Single]),
-}
-
-use Said::{List, One};
-use Single::{Bool, Int, Long, Text, Word};
-
-// The leaves, what counts each of them in an earlier branch, the entry, and the row that it is.
+// The leaves, or the class behind `class:`; what counts each leaf in an earlier branch; the bytes; and the place where they break.
 struct Row {
     leaves: &'static str,
     counts: &'static [i128],
     bytes: &'static [u8],
-    said: &'static [Said],
+    place: Option<u64>,
 }
 
-static ROWS: [Row; 9] = [
-    // The last entry of tree `T`, branch `x`.
+static ROWS: [Row; 24] = [
     Row {
         leaves: "x/I",
         counts: &[],
         bytes: b"\0\0\0\x03",
-        said: &[One(Int(3))],
+        place: None,
     },
-    // The entries of tree `V`, branch `v`, which the leaf of branch `n` counts.
+    // A byte too few, and a byte too many.
     Row {
-        leaves: "v[n]/F",
-        counts: &[0],
-        bytes: b"",
-        said: &[List(&[])],
+        leaves: "x/I",
+        counts: &[],
+        bytes: b"\0\0\0",
+        place: Some(0),
+    },
+    Row {
+        leaves: "x/I",
+        counts: &[],
+        bytes: b"\0\0\0\x03\0",
+        place: Some(4),
+    },
+    Row {
+        leaves: "x/I:y/S",
+        counts: &[],
+        bytes: b"\0\0\0\x03\0",
+        place: Some(4),
+    },
+    // A list breaks where its first value stands that isn't whole.
+    Row {
+        leaves: "x[2]/I",
+        counts: &[7],
+        bytes: b"\0\0\0\x01\xff\xff\xff\xff",
+        place: None,
+    },
+    Row {
+        leaves: "x[2]/I",
+        counts: &[7],
+        bytes: b"\0\0\0\x01\xff\xff\xff",
+        place: Some(4),
     },
     Row {
         leaves: "v[n]/F",
         counts: &[3],
         bytes: b"\x3f\x80\0\0\x40\0\0\0\x40\x40\0\0",
-        said: &[List(&[Word(0x3f80_0000), Word(0x4000_0000), Word(0x4040_0000)])],
-    },
-    // The least number of each letter with a sign, and the greatest of each without.
-    Row {
-        leaves: "a/B:b/S:c/I:d/L",
-        counts: &[],
-        bytes: b"\x80\x80\0\x80\0\0\0\x80\0\0\0\0\0\0\0",
-        said: &[
-            One(Int(-128)),
-            One(Int(-32_768)),
-            One(Int(-2_147_483_648)),
-            One(Int(-9_223_372_036_854_775_808)),
-        ],
+        place: None,
     },
     Row {
-        leaves: "a/b:b/s:c/i:d/l",
-        counts: &[],
-        bytes: b"\xff\xff\xff\xff\xff\xff\xff\xff\xff\xff\xff\xff\xff\xff\xff",
-        said: &[
-            One(Int(255)),
-            One(Int(65_535)),
-            One(Int(4_294_967_295)),
-            One(Int(18_446_744_073_709_551_615)),
-        ],
+        leaves: "v[n]/F",
+        counts: &[3],
+        bytes: b"\x3f\x80\0\0\x40\0\0\0\x40\x40",
+        place: Some(8),
     },
     Row {
-        leaves: "d/D:o/O:p/O",
-        counts: &[],
-        bytes: b"\x3f\xf0\0\0\0\0\0\0\x01\0",
-        said: &[
-            One(Long(0x3ff0_0000_0000_0000)),
-            One(Bool(true)),
-            One(Bool(false)),
-        ],
+        leaves: "v[n]/F",
+        counts: &[1_000_000_000_000],
+        bytes: b"\x3f\x80\0\0\x40\0\0\0",
+        place: Some(8),
     },
-    // A list of a fixed length, which no count changes.
+    // A count below 0 breaks where the values would begin.
     Row {
-        leaves: "x[2]/I",
-        counts: &[7],
-        bytes: b"\0\0\0\x01\xff\xff\xff\xff",
-        said: &[List(&[Int(1), Int(-1)])],
+        leaves: "v[n]/F",
+        counts: &[-1],
+        bytes: b"",
+        place: Some(0),
+    },
+    Row {
+        leaves: "n/I:w[n]/b",
+        counts: &[9, 1],
+        bytes: b"\xff\xff\xff\xff",
+        place: Some(4),
     },
     // A leaf before it in the branch counts, whatever count is given.
     Row {
         leaves: "n/I:w[n]/b",
         counts: &[9, 1],
         bytes: b"\0\0\0\x02\x07\xff",
-        said: &[One(Int(2)), List(&[Int(7), Int(255)])],
+        place: None,
+    },
+    Row {
+        leaves: "n/I:w[n]/b",
+        counts: &[9, 1],
+        bytes: b"\0\0\0\x02\x07",
+        place: Some(5),
+    },
+    Row {
+        leaves: "n/I:w[n]/b",
+        counts: &[9, 1],
+        bytes: b"\0\0\0\x01\x07\xff",
+        place: Some(5),
+    },
+    Row {
+        leaves: "n/I:m/I:w[n]/b:x[m]/S",
+        counts: &[],
+        bytes: b"\0\0\0\x01\0\0\0\x02\x07\0\x01\0\x02",
+        place: None,
     },
     Row {
         leaves: "c/C:x/I",
         counts: &[],
         bytes: b"\x02hi\0\0\0\x05",
-        said: &[One(Text("hi")), One(Int(5))],
+        place: None,
+    },
+    // A text breaks where its length stands.
+    Row {
+        leaves: "c/C:x/I",
+        counts: &[],
+        bytes: b"\x05hi",
+        place: Some(0),
+    },
+    Row {
+        leaves: "x/I:c/C",
+        counts: &[],
+        bytes: b"\0\0\0\x05\x03hi",
+        place: Some(4),
+    },
+    // Three nodes, each of which points to the next one: whole, with a byte behind them, and without their last byte, where the
+    // count of the first one breaks.
+    Row {
+        leaves: "class:Node",
+        counts: &[],
+        bytes: b"\x40\0\0\x33\0\x01\0\0\0\x01\x40\0\0\x29\xff\xff\xff\xffNode\0\
+                 \x40\0\0\x1c\0\x01\0\0\0\x02\x40\0\0\x12\x80\0\0\x10\
+                 \x40\0\0\x0a\0\x01\0\0\0\x03\0\0\0\0",
+        place: None,
+    },
+    Row {
+        leaves: "class:Node",
+        counts: &[],
+        bytes: b"\x40\0\0\x33\0\x01\0\0\0\x01\x40\0\0\x29\xff\xff\xff\xffNode\0\
+                 \x40\0\0\x1c\0\x01\0\0\0\x02\x40\0\0\x12\x80\0\0\x10\
+                 \x40\0\0\x0a\0\x01\0\0\0\x03\0\0\0\0\0",
+        place: Some(55),
+    },
+    Row {
+        leaves: "class:Node",
+        counts: &[],
+        bytes: b"\x40\0\0\x33\0\x01\0\0\0\x01\x40\0\0\x29\xff\xff\xff\xffNode\0\
+                 \x40\0\0\x1c\0\x01\0\0\0\x02\x40\0\0\x12\x80\0\0\x10\
+                 \x40\0\0\x0a\0\x01\0\0\0\x03\0\0\0",
+        place: Some(0),
+    },
+    // A list in an object: whole, without its last byte, and with a counter that says two.
+    Row {
+        leaves: "class:C",
+        counts: &[],
+        bytes: b"\x40\0\0\x0b\0\x01\0\0\0\x01\x01\x3f\x80\0\0",
+        place: None,
+    },
+    Row {
+        leaves: "class:C",
+        counts: &[],
+        bytes: b"\x40\0\0\x0b\0\x01\0\0\0\x01\x01\x3f\x80\0",
+        place: Some(0),
+    },
+    Row {
+        leaves: "class:C",
+        counts: &[],
+        bytes: b"\x40\0\0\x0b\0\x01\0\0\0\x02\x01\x3f\x80\0\0",
+        place: Some(15),
     },
 ];
-
-fn is_text(value: &Value, text: &str) -> bool {
-    match value {
-        Value::Text(name) => name.as_slice() == text.as_bytes(),
-        _ => false,
-    }
-}
-
-impl Single {
-    fn is(&self, value: &Value) -> bool {
-        match self {
-            Int(n) => matches!(value, Value::Int(m) if m == n),
-            Word(n) => matches!(value, Value::Bits32(m) if m == n),
-            Long(n) => matches!(value, Value::Bits64(m) if m == n),
-            Bool(b) => matches!(value, Value::Bool(c) if c == b),
-            Text(text) => is_text(value, text),
-        }
-    }
-}
-
-fn are_singles(said: &[Single], values: &[Value]) -> bool {
-    for (k, value) in values.iter().enumerate() {
-        match said.get(k) {
-            Some(single) if single.is(value) => {}
-            _ => return false,
-        }
-    }
-    values.len() == said.len()
-}
-
-impl Said {
-    fn is(&self, value: &Value) -> bool {
-        match self {
-            One(single) => single.is(value),
-            List(said) => match value {
-                Value::List(items) => are_singles(said, items.as_slice()),
-                _ => false,
-            },
-        }
-    }
-}
-
-fn are(said: &[Said], values: &[Value]) -> bool {
-    for (k, value) in values.iter().enumerate() {
-        match said.get(k) {
-            Some(one) if one.is(value) => {}
-            _ => return false,
-        }
-    }
-    values.len() == said.len()
-}
 
 fn counts_of(alloc: Global, counts: &[i128]) -> Result<Values, NoMemory> {
     let mut values = Values::new(alloc);
@@ -171,65 +209,61 @@ fn counts_of(alloc: Global, counts: &[i128]) -> Result<Values, NoMemory> {
     Ok(values)
 }
 
-fn is_written(
-    alloc: Global,
-    classes: &Classes,
-    branch: &BranchDef,
-    counts: &Values,
-    row: &Values,
-    bytes: &[u8],
-) -> bool {
-    match write_entry(alloc, classes, branch, counts, row) {
-        Ok(written) => written.as_slice() == bytes,
-        Err(_) => false,
+// A branch of these leaves, or of the class behind `class:`.
+fn branch_of(alloc: Global, leaves: &str) -> Result<BranchDef, LeafFault> {
+    match leaves.strip_prefix("class:") {
+        Some(class) => Ok(BranchDef {
+            name: Name::new(alloc),
+            shape: Shape::Class(name_of(alloc, class)?),
+        }),
+        None => branch_of_row(alloc, "", leaves),
     }
 }
 
-// The row that the bytes are read as, if it is written as them.
-fn row_of(
+fn is_told(told: Option<EntryFault>, place: Option<u64>) -> bool {
+    match told {
+        Some(EntryFault::BadEntry { place: at }) => place == Some(at),
+        Some(_) => false,
+        None => place.is_none(),
+    }
+}
+
+// Whether all three calls find the bytes to be whole, or to break at the place.
+fn is_checked(
     alloc: Global,
     classes: &Classes,
     branch: &BranchDef,
     counts: &Values,
     bytes: &[u8],
-) -> Option<Values> {
+    place: Option<u64>,
+) -> bool {
     if bytes.len() > 1000 {
-        return None;
+        return false;
     }
-    let row = read_entry(alloc, classes, branch, counts, bytes).ok()?;
-    if is_written(alloc, classes, branch, counts, &row, bytes) {
-        Some(row)
-    } else {
-        None
-    }
+    let checked = check_entry(alloc, classes, branch, counts, bytes).err();
+    let numbered = entry_numbers(alloc, classes, branch, counts, bytes).err();
+    let read = read_entry(alloc, classes, branch, counts, bytes).err();
+    is_told(checked, place) && is_told(numbered, place) && is_told(read, place)
 }
 
 impl Row {
-    fn is_read(&self, alloc: Global, branch: &BranchDef, counts: &Values) -> bool {
-        match row_of(alloc, &Classes::new(alloc), branch, counts, self.bytes) {
-            Some(row) => are(self.said, row.as_slice()),
-            None => false,
-        }
-    }
-
-    fn is_read_in(&self, alloc: Global, branch: &BranchDef) -> bool {
-        match counts_of(alloc, self.counts) {
-            Ok(counts) => self.is_read(alloc, branch, &counts),
-            Err(_) => false,
-        }
-    }
-
     fn holds(&self, alloc: Global) -> bool {
-        match branch_of_row(alloc, "", self.leaves) {
-            Ok(branch) => self.is_read_in(alloc, &branch),
-            Err(_) => false,
+        match (
+            classes_of(alloc, &CLASSES),
+            branch_of(alloc, self.leaves),
+            counts_of(alloc, self.counts),
+        ) {
+            (Ok(classes), Ok(branch), Ok(counts)) => {
+                is_checked(alloc, &classes, &branch, &counts, self.bytes, self.place)
+            }
+            _ => false,
         }
     }
 }
 
 #[test]
-fn entries_are_read_and_written(rt: HostRuntime) {
+fn entries_are_checked(rt: HostRuntime) {
     for row in &ROWS {
-        assert!(rt; row.holds(rt.alloc()), "{}", row.leaves);
+        assert!(rt; row.holds(rt.alloc()), "{} {:?}", row.leaves, row.bytes);
     }
 }

@@ -1,7 +1,6 @@
 //! Objects and numbers that are passed over.
-use rio_buffer::{ObjFault, ObjReader};
+use rio_format::{Classes, ObjFault, ObjReader, Prim};
 use rio_read::{pass_next, pass_number, pass_numbers};
-use rio_types::{Classes, Prim};
 use std::alloc::Global;
 
 // A TObjString, which has the text `abc`, and one byte behind it.

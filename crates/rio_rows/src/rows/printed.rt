@@ -1,6 +1,6 @@
 //! Classes and their parts as text, as the tests compare them.
 use rio_num::{Bytes, NoMemory};
-use rio_types::{Base, ClassDef, Kind, Member, Prim};
+use rio_format::{Base, ClassDef, Kind, Member, Prim};
 use std::alloc::Global;
 
 fn prim_name(of: Prim) -> &'static str {
@@ -108,13 +108,6 @@ fn put_class(printed: &mut Bytes, class: &ClassDef) -> Result<(), NoMemory> {
     printed.put_decimal(u64::from(class.sum))?;
     put_bases(printed, class.bases.as_slice())?;
     put_members(printed, class.members.as_slice())
-}
-
-/// The members of a class as text.
-pub(crate) fn printed_members(alloc: Global, class: &ClassDef) -> Result<Bytes, NoMemory> {
-    let mut printed = Bytes::new(alloc);
-    put_members(&mut printed, class.members.as_slice())?;
-    Ok(printed)
 }
 
 fn put_classes(printed: &mut Bytes, classes: &[ClassDef]) -> Result<(), NoMemory> {

@@ -1,8 +1,8 @@
-//! Declarations, and what each of them is answered.
+//! Declarations that no script has, and what each of them is answered.
 use crate::rows::classes::{bare_class, name_of};
 use rio_num::{Name, NoMemory};
-use rio_registry::{DeclareFault, Registry, is_reserved_name};
-use rio_types::{Base, ClassDef, Kind, Member, Members};
+use rio_registry::{DeclareFault, Registry};
+use rio_format::{Base, ClassDef, Kind, Member, Members};
 use std::alloc::Global;
 
 // A class and the answer to its declaration. Its parts are bases `:NAME`, members by value `=NAME` and pointers `*NAME`.
@@ -13,31 +13,14 @@ type Row = (
     Option<DeclareFault>,
 );
 
-static FIRST_RULE: [Row; 10] = [
+static TWO_CLASSES: [Row; 2] = [
     ("Node", 1, &["*Node"], None),
-    ("Node", 1, &[], Some(DeclareFault::SameVersion)),
-    ("A", 1, &["=A"], Some(DeclareFault::HoldsItself)),
-    ("A", 1, &[":A"], Some(DeclareFault::HoldsItself)),
-    ("Node", 1, &["=Node"], Some(DeclareFault::SameVersion)),
-    ("Node", 1, &["=Q"], Some(DeclareFault::NoSuchClass)),
-    ("A", 1, &[":TObjString"], Some(DeclareFault::NoSuchClass)),
-    ("A", 1, &["=TObject"], Some(DeclareFault::NoSuchClass)),
-    ("A", 1, &["*TArrayI"], Some(DeclareFault::NoSuchClass)),
     (
         "A",
         1,
         &[":TObject", "*TNamed", "*TObjArray", "*TList", "*TObjString"],
         None,
     ),
-];
-
-static ALL_VERSIONS: [Row; 6] = [
-    ("B", 1, &[], None),
-    ("A", 1, &["=B"], None),
-    ("A", 2, &[], None),
-    ("C", 1, &[":A"], None),
-    ("B", 2, &["=C"], Some(DeclareFault::HoldsItself)),
-    ("B", 2, &["*C"], None),
 ];
 
 // A base may be TObject before a class of this name is declared.
@@ -52,13 +35,6 @@ static TWO_VERSIONS: [Row; 2] = [("P", 1, &[], None), ("P", 3, &[], None)];
 static OF_P: Row = ("D", 1, &[":P"], None);
 
 static OF_ITSELF: Row = ("D", 1, &["=D"], Some(DeclareFault::HoldsItself));
-
-static THREE_VERSIONS: [Row; 4] = [
-    ("P", 1, &[], None),
-    ("P", 3, &[], None),
-    ("P", 2, &[], None),
-    ("D", 1, &[":TNamed", ":P", ":TObject"], None),
-];
 
 fn push_member(members: &mut Members, kind: Kind) -> Result<(), NoMemory> {
     let name = name_of(members.allocator(), "x")?;
@@ -124,24 +100,9 @@ fn forgets(registry: &mut Registry) -> bool {
 // Whether the last row is answered as before once its class is taken out.
 fn holds_again(alloc: Global) -> bool {
     let mut registry = Registry::new(alloc);
-    are_answered(alloc, &mut registry, &FIRST_RULE)
+    are_answered(alloc, &mut registry, &TWO_CLASSES)
         && forgets(&mut registry)
-        && are_answered(alloc, &mut registry, &FIRST_RULE[9..])
-}
-
-#[test]
-fn answers_by_the_first_rule(rt: HostRuntime) {
-    assert!(rt; holds_again(rt.alloc()));
-}
-
-#[test]
-fn follows_all_versions_of_all_classes(rt: HostRuntime) {
-    assert!(rt; holds(rt.alloc(), &ALL_VERSIONS));
-}
-
-#[test]
-fn follows_a_built_in_name(rt: HostRuntime) {
-    assert!(rt; holds(rt.alloc(), &BUILT_IN_NAME));
+        && are_answered(alloc, &mut registry, &TWO_CLASSES[1..])
 }
 
 fn judged(alloc: Global, registry: &Registry, row: &Row) -> Result<ClassDef, DeclareFault> {
@@ -179,48 +140,8 @@ fn judges(alloc: Global) -> bool {
 }
 
 #[test]
-fn judges_without_declaring(rt: HostRuntime) {
+fn declares_judges_and_forgets(rt: HostRuntime) {
+    assert!(rt; holds(rt.alloc(), &BUILT_IN_NAME));
+    assert!(rt; holds_again(rt.alloc()));
     assert!(rt; judges(rt.alloc()));
-}
-
-// Names, and whether they are reserved.
-static NAMES: [(&str, bool); 5] = [
-    ("TObject", true),
-    ("TZ", true),
-    ("T", false),
-    ("Tau", false),
-    ("XT", false),
-];
-
-#[test]
-fn knows_reserved_names(rt: HostRuntime) {
-    for (name, reserved) in &NAMES {
-        assert!(rt; is_reserved_name(name.as_bytes()) == *reserved, "{}", name);
-    }
-}
-
-fn are_newest(bases: &[Base]) -> bool {
-    match bases {
-        [first, second, third] => {
-            first.version == 1 && second.version == 3 && third.version == 1
-        }
-        _ => false,
-    }
-}
-
-fn has_newest(registry: &Registry) -> bool {
-    match registry.classes().newest(b"D") {
-        Some(class) => are_newest(class.bases.as_slice()),
-        None => false,
-    }
-}
-
-fn puts_newest(alloc: Global) -> bool {
-    let mut registry = Registry::new(alloc);
-    are_answered(alloc, &mut registry, &THREE_VERSIONS) && has_newest(&registry)
-}
-
-#[test]
-fn puts_bases_in_their_newest_versions(rt: HostRuntime) {
-    assert!(rt; puts_newest(rt.alloc()));
 }

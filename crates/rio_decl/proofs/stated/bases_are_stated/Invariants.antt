@@ -1,5 +1,5 @@
 use Rattle.std.proofs.Common.{◌≡◌, List, [], drop}
-use Rattle.rio_types.specs.declared.class.Base.{Base}
+use Rattle.rio_format.specs.declared.class.Base.{Base}
 use Rattle.rio_model.specs.Stated.{are_stated_bases}
 use Rattle.rio_decl.specs.Known.{KnowsBases}
 use Rattle.rio_decl.proofs.stated.bases_are_stated.Given as goal

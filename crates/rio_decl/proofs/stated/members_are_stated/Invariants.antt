@@ -1,5 +1,5 @@
 use Rattle.std.proofs.Common.{◌≡◌, ◌++◌, List, [], drop}
-use Rattle.rio_types.specs.declared.class.Member.{Member}
+use Rattle.rio_format.specs.declared.class.Member.{Member}
 use Rattle.rio_model.specs.Stated.{are_stated_members}
 use Rattle.rio_model.proofs.ReadClasses.{Known}
 use Rattle.rio_decl.specs.Known.{KnowsPassed}

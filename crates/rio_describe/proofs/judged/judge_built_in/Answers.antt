@@ -1,6 +1,5 @@
 use Rattle.std.proofs.{Common.{[], ◌∷◌}, lemmas.Result.{on_ok_weaker}}
-use Rattle.rio_types.specs.declared.class.Base.{Base}
-use Rattle.rio_format.specs.{Lists.{listed}, declared.built_in.BuiltIn.TheVariants.{Named, ObjString, Listed, Arrayed}}
+use Rattle.rio_format.specs.{declared.class.Base.{Base}, Lists.{listed}, declared.built_in.BuiltIn.TheVariants.{Named, ObjString, Listed, Arrayed}}
 use Rattle.rio_describe.specs.Heirs.{built_in_base}
 use Rattle.rio_describe.proofs.HeirLaws.{judged_then}
 use Rattle.rio_describe.proofs.judged.judge_built_in.Goals as goal

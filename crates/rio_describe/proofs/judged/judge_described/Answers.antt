@@ -1,7 +1,6 @@
 use Rattle.std.proofs.{Common.{◌++◌, List, arith, map, ap, subst, sym}, lemmas.Int.{to_z-of_z}, lemmas.Result.{on_ok_weaker}}
 use Rattle.std.specs.Prelude.{OnOk}
-use Rattle.rio_types.specs.declared.class.ClassDef.{ClassDef}
-use Rattle.rio_format.specs.Lists.{listed}
+use Rattle.rio_format.specs.{declared.class.ClassDef.{ClassDef}, Lists.{listed}}
 use Rattle.rio_describe.specs.Heirs.{Judged, class_base}
 use Rattle.rio_describe.proofs.HeirLaws.{judged_last}
 use Rattle.rio_describe.proofs.judged.judge_described.Goals as goal

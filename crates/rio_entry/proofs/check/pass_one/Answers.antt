@@ -1,5 +1,5 @@
 use Rattle.std.proofs.Common.{subst}
-use Rattle.rio_buffer.specs.Frames.{ReadsAs, Step}
+use Rattle.rio_format.specs.Frames.{ReadsAs, Step}
 use Rattle.rio_entry.proofs.KeptEntries.{one_passed}
 use Rattle.rio_entry.proofs.check.pass_one.Goals as goal
 

@@ -2,9 +2,8 @@ use Rattle.std.proofs.{Common.{◌≡◌, ℕ, ℤ, Option, List, length, [], �
 use Rattle.std.proofs.lemmas.Result.{err_from_is_err_and}
 use Rattle.std.specs.Int.{w128}
 use Rattle.rio_num.specs.Meanings.{read}
-use Rattle.rio_buffer.specs.Frames.{Step}
+use Rattle.rio_format.specs.{Frames.{Step}, declared.value.Value.{Value, Int}}
 use Rattle.rio_machine.specs.Rows.{leaf_kind}
-use Rattle.rio_value.specs.declared.value.Value.{Value, Int}
 use Rattle.rio_entry.specs.{Counting.{counter_at}, Leaves.{kind_layout, numbers_after, number_of_value}}
 use Rattle.rio_machine.specs.Entries.{counter_saying, given_count, said_count}
 use Rattle.rio_entry.proofs.Counting.{counter_there}

@@ -3,7 +3,7 @@ use Rattle.rio_num.specs.{At.{GoesOn}, Meanings.{read}}
 use Rattle.rio_leaf.specs.declared.branch.Shape.TheVariants.{Leaves}
 use Rattle.rio_machine.specs.Rows.{leaf_column}
 use Rattle.rio_read.specs.Lists.{with_front}
-use Rattle.rio_types.specs.declared.class.ClassDef.{ClassDef}
+use Rattle.rio_format.specs.declared.class.ClassDef.{ClassDef}
 use Rattle.rio_entry.specs.Leaves.{numbers_after, numbers_of_values}
 use Rattle.rio_machine.specs.Entries.{columns_values, entry_values}
 use Rattle.rio_entry.proofs.check_leaves.pass_counting.Given as goal

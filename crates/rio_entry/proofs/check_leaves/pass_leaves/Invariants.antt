@@ -1,11 +1,9 @@
 use Rattle.std.proofs.Common.{◌≡◌, List, false, map, drop}
 use Rattle.rio_num.specs.{At.{GoesOn}, Meanings.{read}}
-use Rattle.rio_format.specs.Bodies.{Counters}
+use Rattle.rio_format.specs.{Bodies.{Counters}, declared.class.ClassDef.{ClassDef}, declared.value.Value.{Value}}
 use Rattle.rio_leaf.specs.declared.branch.Shape.TheVariants.{Leaves}
 use Rattle.rio_machine.specs.Rows.{leaf_column}
 use Rattle.rio_read.specs.Passing.{pass_of}
-use Rattle.rio_types.specs.declared.class.ClassDef.{ClassDef}
-use Rattle.rio_value.specs.declared.value.Value.{Value}
 use Rattle.rio_entry.specs.Leaves.{is_any_counted}
 use Rattle.rio_machine.specs.Entries.{columns_values, entry_values}
 use Rattle.rio_entry.proofs.check_leaves.pass_leaves.Given as goal

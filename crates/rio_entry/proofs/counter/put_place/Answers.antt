@@ -1,6 +1,6 @@
 use Rattle.std.proofs.{Common.{Bool, cond, Option, Some, ap, ◌∙◌, nat_cmp, ℕ}, lemmas.Map.Text.{is_eq-slice_cmp}}
 use Rattle.std.specs.{Map.{lookup}, Ordering.{is_eq}, Cmp.Lexicographic.{slice_cmp}}
-use Rattle.rio_types.proofs.MapLaws.{bytes-insert}
+use Rattle.rio_format.proofs.MapLaws.{bytes-insert}
 use Rattle.rio_entry.specs.Counting.{place_by_name}
 use Rattle.rio_entry.proofs.counter.put_place.Goals as goal
 

@@ -1,6 +1,6 @@
 use Rattle.std.proofs.Common.{◌≡◌, List, [], IfOk, ap, nat_cmp, subst}
 use Rattle.std.specs.{Map.{lookup}, Ordering.{is_eq}, Cmp.Lexicographic.{slice_cmp}}
-use Rattle.rio_value.specs.declared.value.Value.{Value}
+use Rattle.rio_format.specs.declared.value.Value.{Value}
 use Rattle.rio_entry.specs.Counted.{noted_branches}
 use Rattle.rio_entry.proofs.CountedLaws.{all_counted}
 use Rattle.rio_entry.proofs.counts.count_by_name.Goals as goal

@@ -1,7 +1,6 @@
 use Rattle.std.proofs.{Common.{ℕ, ℤ, List, map, cond, Option, Some, rules, sym, ap, subst, ◌∙◌, arith}, lemmas.Int.{to_z-of_z}, lemmas.List.{length-map}}
 use Rattle.std.specs.{Int.{w128}, Str.{bytes_eq}}
-use Rattle.rio_value.specs.{Accessors.{number_in}, declared.value.Value.{out-Value}}
-use Rattle.rio_format.specs.{Bodies.{Counters}, Counts.{SaysAsFirst, number_by_name}}
+use Rattle.rio_format.specs.{Accessors.{number_in}, declared.value.Value.{out-Value}, Bodies.{Counters}, Counts.{SaysAsFirst, number_by_name}}
 use Rattle.rio_machine.specs.Rows.{leaf_column, leaf_numbers_behind}
 use Rattle.rio_entry.proofs.FitsBehind.{leaf_fails, leaf_more, leaves_done, too_few}
 use Rattle.rio_entry.proofs.fitting.leaves_stand.Goals as goal

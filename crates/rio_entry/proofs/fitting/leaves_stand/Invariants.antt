@@ -1,6 +1,5 @@
 use Rattle.std.proofs.Common.{List}
-use Rattle.rio_format.specs.{Bodies.{Counters}, Counts.{SaysAsFirst}}
-use Rattle.rio_types.specs.declared.class.ClassDef.{ClassDef}
+use Rattle.rio_format.specs.{Bodies.{Counters}, Counts.{SaysAsFirst}, declared.class.ClassDef.{ClassDef}}
 use Rattle.rio_entry.proofs.FitsBehind.{LeavesLeft}
 use Rattle.rio_entry.proofs.fitting.leaves_stand.Given as goal
 

@@ -1,8 +1,7 @@
 use Rattle.std.proofs.Common.{◌≡◌, ◌+◌, ℕ, List, length, min, take, drop, false, true, sym, ap, subst, ◌∙◌, arith}
-use Rattle.rio_format.specs.{Counts.{SaysAsFirst}}
+use Rattle.rio_format.specs.{Counts.{SaysAsFirst}, declared.value.Value.{Value}}
 use Rattle.rio_machine.specs.Rows.{columns_fit, columns_of, leaf_numbers_after, shape_columns}
 use Rattle.rio_tree.specs.WrittenLaws.{stated_defs}
-use Rattle.rio_value.specs.declared.value.Value.{Value}
 use Rattle.rio_entry.proofs.FitsBehind.{branch_fails, branch_fits, drop_min, take_min}
 use Rattle.rio_entry.proofs.fitting.row_fits.Goals as goal
 

@@ -1,8 +1,7 @@
 use Rattle.std.proofs.{Common.{◌≤◌, ◌∙◌, ℤ, cond, List, length, Option, Some, sym, ap, arith, rules, ℕ}, lemmas.Bool.{ltb-false, ltb-true}}
 use Rattle.std.proofs.lemmas.Int.{to_z-of_z}
 use Rattle.std.specs.{Int.{w128}, Map.{lookup}, Str.{bytes_eq}}
-use Rattle.rio_value.specs.{Accessors.{number_in}, declared.value.Value.{out-Value}}
-use Rattle.rio_format.specs.Counts.{number_by_name}
+use Rattle.rio_format.specs.{Accessors.{number_in}, declared.value.Value.{out-Value}, Counts.{number_by_name}}
 use Rattle.rio_entry.specs.Leaves.{numbers_with}
 use Rattle.rio_entry.proofs.RowReads.{noted_all, noted_next, noted_past}
 use Rattle.rio_entry.proofs.numbers.note_leaves.Goals as goal

@@ -1,7 +1,7 @@
 use Rattle.std.proofs.{Common.{◌≡◌, to_z, of_z, rules, ℤ, Bool, cond, Option, Some, ap, ◌∙◌, nat_cmp}, lemmas.Int.{to_z-of_z}}
 use Rattle.std.proofs.lemmas.Map.Text.{is_eq-slice_cmp}
 use Rattle.std.specs.{Int.{w128}, Map.{lookup}, Ordering.{is_eq}, Cmp.Lexicographic.{slice_cmp}, Str.{bytes_eq}}
-use Rattle.rio_types.proofs.MapLaws.{bytes-insert}
+use Rattle.rio_format.proofs.MapLaws.{bytes-insert}
 use Rattle.rio_format.specs.Counts.{number_by_name}
 use Rattle.rio_entry.proofs.numbers.put_number.Goals as goal
 

@@ -1,5 +1,5 @@
 use Rattle.std.proofs.Common.{List, subst, arith}
-use Rattle.rio_value.specs.declared.value.Value.{Value}
+use Rattle.rio_format.specs.declared.value.Value.{Value}
 use Rattle.rio_num.specs.Answers.{GivesUnless}
 use Rattle.rio_machine.specs.{Entries.{entry_in}, declared.entry_fault.EntryFault.TheVariants.{NoMemory}}
 use Rattle.rio_entry.proofs.EntryLaws.{is_broken, is_found, is_only}

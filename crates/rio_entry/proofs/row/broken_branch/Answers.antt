@@ -1,6 +1,5 @@
 use Rattle.std.proofs.Common.{List, subst, arith}
-use Rattle.rio_format.specs.Counts.{SaysAsFirst}
-use Rattle.rio_value.specs.declared.value.Value.{Value}
+use Rattle.rio_format.specs.{Counts.{SaysAsFirst}, declared.value.Value.{Value}}
 use Rattle.rio_entry.specs.declared.part.RowPart.{RowPart}
 use Rattle.rio_machine.specs.RowEntries.{numbers_behind}
 use Rattle.rio_entry.proofs.RowReads.{broken_goes_on}

@@ -1,6 +1,5 @@
 use Rattle.std.proofs.Common.{◌≡◌, ◌++◌, ◌∙◌, ◌+◌, List, map, subst, sym, ap, arith}
-use Rattle.rio_format.specs.Counts.{SaysAsFirst}
-use Rattle.rio_value.specs.declared.value.Value.{Value}
+use Rattle.rio_format.specs.{Counts.{SaysAsFirst}, declared.value.Value.{Value}}
 use Rattle.rio_entry.specs.declared.part.RowPart.{RowPart}
 use Rattle.rio_machine.specs.RowEntries.{numbers_behind, row_in}
 use Rattle.rio_entry.proofs.RowReads.{left, row_goes_on, with_front}

@@ -1,7 +1,7 @@
 use Rattle.std.proofs.{Common.{List, Option, None, sym, ap, ◌∙◌}, lemmas.Result.{IfOk-at_ok}}
 use Rattle.rio_num.proofs.Cases.{none_from}
 use Rattle.rio_tree.specs.declared.refusal.BranchRefusal.{BranchRefusal}
-use Rattle.rio_value.specs.declared.value.Value.{Value}
+use Rattle.rio_format.specs.declared.value.Value.{Value}
 use Rattle.rio_entry.specs.{BranchRows.{values_of_branch}, Sweeps.{with_branch}}
 use Rattle.rio_entry.specs.Checked.{made_of}
 use Rattle.rio_entry.proofs.{Left.{was_ok}, Walks.{lane_same}}

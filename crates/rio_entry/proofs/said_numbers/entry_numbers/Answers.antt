@@ -1,7 +1,6 @@
 use Rattle.std.proofs.Common.{List, map, subst, arith}
 use Rattle.rio_num.specs.{Answers.{GivesUnless}, Meanings.{read}}
-use Rattle.rio_buffer.specs.ReaderState.{no_words, standing}
-use Rattle.rio_value.specs.declared.value.Value.{Value}
+use Rattle.rio_format.specs.{ReaderState.{no_words, standing}, declared.value.Value.{Value}}
 use Rattle.rio_entry.specs.Leaves.{number_alone, numbers_of_values}
 use Rattle.rio_machine.specs.{Entries.{entry_values, only_values}, declared.entry_fault.EntryFault.TheVariants.{NoMemory}}
 use Rattle.rio_entry.proofs.KeptEntries.{kept_is_broken, kept_is_found, told_as_kept}

@@ -1,6 +1,6 @@
 use Rattle.std.proofs.{Common.{◌≡◌, ◌∙◌, List, [], ◌∷◌, ◌++◌, ap}, lemmas.Result.{err_from_is_err_and}}
 use Rattle.std.specs.Prelude.{pos}
-use Rattle.rio_value.specs.declared.value.Value.{Value, Int}
+use Rattle.rio_format.specs.declared.value.Value.{Value, Int}
 use Rattle.rio_entry.proofs.KeptEntries.{one_breaks, one_says}
 use Rattle.rio_entry.proofs.said_numbers.object_numbers.Goals as goal
 

@@ -1,6 +1,6 @@
 use Rattle.std.proofs.Common.{List, arith, subst}
 use Rattle.rio_leaf.specs.declared.branch.Shape.TheVariants.{Class}
-use Rattle.rio_value.specs.declared.value.Value.{Value}
+use Rattle.rio_format.specs.declared.value.Value.{Value}
 use Rattle.rio_entry.specs.Entries.{entry_written}
 use Rattle.rio_machine.specs.declared.entry_fault.EntryFault.TheVariants.{NoMemory}
 use Rattle.rio_num.specs.Answers.{GivesUnless}

@@ -1,4 +1,4 @@
-use Rattle.rio_basket.proofs.CutAll.{cut_holds_all}
+use Rattle.rio_key.proofs.CutAll.{cut_holds_all}
 use Rattle.rio_fill.proofs.FillLaws.{entry_keeps_cut, fresh_is_cut, save_lists_baskets}
 use Rattle.rio_fill.proofs.laws.rows_are_cut.Goals as goal
 

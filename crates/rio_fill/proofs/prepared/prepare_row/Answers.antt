@@ -1,9 +1,8 @@
 use Rattle.std.proofs.Common.{◌≡◌, ◌+◌, ◌<◌, ◌≤◌, ℕ, List, ◌∷◌, length, min, take, drop, Err, true, false, sym, ap, subst, ◌∙◌, arith}
 use Rattle.std.proofs.lemmas.{List.{drop_all}, Result.{err_from_is_err_and}}
 use Rattle.rio_leaf.specs.{Stated.{all_leaves}, declared.branch.BranchDef.{BranchDef}, declared.leaf.Leaf.{Leaf}}
-use Rattle.rio_format.specs.{Bodies.{Counters}, Counts.{SaysAsFirst}}
+use Rattle.rio_format.specs.{Bodies.{Counters}, Counts.{SaysAsFirst}, declared.value.Value.{Value}}
 use Rattle.rio_machine.specs.Rows.{columns_bytes, columns_fit, leaf_numbers_after, shape_columns}
-use Rattle.rio_value.specs.declared.value.Value.{Value}
 use Rattle.rio_entry.specs.Leaves.{numbers_after}
 use Rattle.rio_entry.proofs.{Counting.{left_begins}, FitsBehind.{drop_min, take_min}}
 use Rattle.rio_fill.specs.{Fill.{BranchFill, defs_of}, Parts.{with_part}}

@@ -2,7 +2,7 @@ use Rattle.std.proofs.Common.{ℕ, List, Result, map, subst, ap, ◌∙◌}
 use Rattle.rio_leaf.specs.{Stated.{leaves_of}, declared.leaf.Leaf.{Leaf}}
 use Rattle.rio_num.specs.Answers.{GivesUnless}
 use Rattle.rio_machine.specs.Rows.{leaf_column}
-use Rattle.rio_value.specs.declared.value.Value.{Value}
+use Rattle.rio_format.specs.declared.value.Value.{Value}
 use Rattle.rio_entry.specs.Entries.{entry_written}
 use Rattle.rio_machine.specs.declared.entry_fault.EntryFault.{EntryFault, TheVariants.{NoMemory as OutOfMemory}}
 use Rattle.rio_machine.specs.RowEntries.{counts_before}

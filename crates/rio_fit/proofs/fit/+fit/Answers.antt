@@ -1,7 +1,6 @@
 use Rattle.std.proofs.Common.{◌≡◌, rules, length, refl, sym, ap, ◌∙◌, arith}
 use Rattle.std.specs.Prelude.{is_none, slice_get}
-use Rattle.rio_types.specs.declared.kind.Kind.TheVariants.{Counter}
-use Rattle.rio_format.specs.{Slots.{Field, kinded}, SlotKinds.{slot_of_kind}, Fits.{part_fitting}}
+use Rattle.rio_format.specs.{declared.kind.Kind.TheVariants.{Counter}, Slots.{Field, kinded}, SlotKinds.{slot_of_kind}, Fits.{part_fitting}}
 use Rattle.rio_fit.proofs.FitLaws.{part_counts, part_goes_on, part_stops, part_too_many, parts_done, same_names}
 use Rattle.rio_fit.proofs.fit.+fit.Goals as goal
 

@@ -1,6 +1,5 @@
 use Rattle.std.proofs.{Common.{arith, of_z, refl, to_z, w32, ap, ◌∙◌, Option, Some}, lemmas.Int.{to_z-of_z}}
-use Rattle.rio_types.specs.declared.class.Base.{Base}
-use Rattle.rio_format.specs.{Lists.{listed}, Visits.{base_of}}
+use Rattle.rio_format.specs.{declared.class.Base.{Base}, Lists.{listed}, Visits.{base_of}}
 use Rattle.rio_format.proofs.BaseLaws.{expanded_then, found_in_round, its_body}
 use Rattle.rio_format.proofs.bases.expand_round.Goals as goal
 

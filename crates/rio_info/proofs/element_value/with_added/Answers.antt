@@ -1,6 +1,5 @@
 use Rattle.std.proofs.{Common.{◌≡◌, ℕ, ℤ, List, [], ◌++◌, Bor, refl, sym, ap, ◌∙◌}, lemmas.List.{append-nil}}
-use Rattle.rio_types.specs.declared.class.ClassDef.{ClassDef}
-use Rattle.rio_value.specs.declared.value.Part.{Part}
+use Rattle.rio_format.specs.{declared.class.ClassDef.{ClassDef}, declared.value.Part.{Part}}
 use Rattle.rio_describe.specs.ElementClasses.{added_parts}
 use Rattle.rio_describe.specs.declared.element.ElementClass.{ElementClass, TheVariants.{Base as BaseElement, BasicType, BasicPointer, Text, Object, ObjectAny, ObjectPointer, ObjectAnyPointer}}
 use Rattle.rio_info.proofs.element_value.with_added.Goals as goal

@@ -1,6 +1,5 @@
 use Rattle.std.proofs.Common.{◌≡◌, ◌++◌, ℕ, List, length, IfOk, subst}
-use Rattle.rio_types.specs.declared.class.ClassDef.{ClassDef}
-use Rattle.rio_format.specs.WrittenBytes.{class_list_bytes, told_length}
+use Rattle.rio_format.specs.{declared.class.ClassDef.{ClassDef}, WrittenBytes.{class_list_bytes, told_length}}
 use Rattle.rio_info.proofs.length.info_length.Goals as goal
 
 pub returns : goal.returns

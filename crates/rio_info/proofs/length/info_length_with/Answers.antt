@@ -1,6 +1,5 @@
 use Rattle.std.proofs.Common.{◌≡◌, [], ◌∷◌, ◌++◌, ℕ, List, length, IfOk, ap, subst, ◌∙◌, append_assoc}
-use Rattle.rio_types.specs.declared.class.ClassDef.{ClassDef}
-use Rattle.rio_format.specs.{TreeClasses.{tree_classes}, WrittenBytes.{class_list_bytes, told_length}}
+use Rattle.rio_format.specs.{declared.class.ClassDef.{ClassDef}, TreeClasses.{tree_classes}, WrittenBytes.{class_list_bytes, told_length}}
 use Rattle.rio_info.proofs.length.info_length_with.Goals as goal
 
 pub returns : goal.returns

@@ -1,7 +1,5 @@
 use Rattle.std.proofs.Common.{◌≡◌, ℕ, List, length, min, IfOk, ap, ◌∙◌, subst}
-use Rattle.rio_types.specs.declared.class.ClassDef.{ClassDef}
-use Rattle.rio_value.specs.declared.value.Value.{Value}
-use Rattle.rio_format.specs.{Descriptions.{description_classes}, Written.{written_form}}
+use Rattle.rio_format.specs.{declared.class.ClassDef.{ClassDef}, declared.value.Value.{Value}, Descriptions.{description_classes}, Written.{written_form}}
 use Rattle.rio_write.specs.Measuring.{too_long}
 use Rattle.rio_info.proofs.length.list_length.Goals as goal
 

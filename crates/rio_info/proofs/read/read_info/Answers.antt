@@ -1,6 +1,5 @@
 use Rattle.std.proofs.{Common.{◌≡◌, List, Err, codes, subst, arith}, lemmas.Result.{err_from_is_err_and}}
-use Rattle.rio_types.specs.declared.class.ClassDef.{ClassDef}
-use Rattle.rio_format.specs.{Descriptions.{description_classes}, Objects.{value_at}}
+use Rattle.rio_format.specs.{declared.class.ClassDef.{ClassDef}, Descriptions.{description_classes}, Objects.{value_at}}
 use Rattle.rio_format.proofs.ObjectLaws.{fault_is_broken}
 use Rattle.rio_info.proofs.read.read_info.Goals as goal
 

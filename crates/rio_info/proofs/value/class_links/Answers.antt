@@ -1,7 +1,6 @@
 use Rattle.std.proofs.Common.{◌≡◌, ◌+◌, ℕ, List, [], ◌∷◌, ◌++◌, length, drop, slice_get, suc, Some, sym, ap, ◌∙◌, append_assoc, arith}
-use Rattle.rio_types.specs.{declared.class.Base.{Base}, declared.class.ClassDef.{ClassDef}, declared.class.Member.{Member}}
-use Rattle.rio_types.proofs.ChainLaws.{drop_at}
-use Rattle.rio_value.specs.declared.value.Value.{Value}
+use Rattle.rio_format.specs.{declared.class.Base.{Base}, declared.class.ClassDef.{ClassDef}, declared.class.Member.{Member}, declared.value.Value.{Value}}
+use Rattle.rio_format.proofs.ChainLaws.{drop_at}
 use Rattle.rio_format.specs.{Lists.{listed}, WrittenList.{class_links, class_pointer, label_count, linked}}
 use Rattle.rio_info.proofs.value.class_links.Goals as goal
 

@@ -1,7 +1,5 @@
 use Rattle.std.proofs.{Common.{◌≡◌, ◌+◌, ℕ, List, ◌++◌, length, map, refl, arith}, lemmas.List.{length-map, map-append}}
-use Rattle.rio_types.specs.declared.class.ClassDef.{ClassDef}
-use Rattle.rio_value.specs.declared.value.Value.{Value}
-use Rattle.rio_format.specs.{Lists.{listed}, WrittenElements.{base_element, member_element, written_elements}, WrittenList.{element_object, pointers_from}}
+use Rattle.rio_format.specs.{declared.class.ClassDef.{ClassDef}, declared.value.Value.{Value}, Lists.{listed}, WrittenElements.{base_element, member_element, written_elements}, WrittenList.{element_object, pointers_from}}
 use Rattle.rio_model.proofs.PointerLaws.{pointers_from-append}
 use Rattle.rio_info.proofs.value.element_pointers.Goals as goal
 

@@ -1,8 +1,6 @@
 use Rattle.std.proofs.Common.{◌≡◌, ℕ, List, length, IfOk, arith, ap, ◌∙◌, subst}
 use Rattle.rio_num.specs.Room.{Room, room_of}
-use Rattle.rio_types.specs.declared.class.ClassDef.{ClassDef}
-use Rattle.rio_value.specs.declared.value.Value.{Value}
-use Rattle.rio_format.specs.{Descriptions.{description_classes}, TreeClasses.{written_classes}, Written.{written_form}, WrittenBytes.{written_list}}
+use Rattle.rio_format.specs.{declared.class.ClassDef.{ClassDef}, declared.value.Value.{Value}, Descriptions.{description_classes}, TreeClasses.{written_classes}, Written.{written_form}, WrittenBytes.{written_list}}
 use Rattle.rio_format.specs.WrittenList.{class_list_value}
 use Rattle.rio_info.proofs.WrittenLists.{is_read}
 use Rattle.rio_info.proofs.write.write_info.Goals as goal

@@ -1,6 +1,6 @@
 use Rattle.std.proofs.{Common.{◌≡◌, ◌∙◌, Bool, true, false, cond, Option, Some, refl, ap, nat_cmp, ℕ}, lemmas.Map.Text.{is_eq-slice_cmp}}
 use Rattle.std.specs.{Prelude.{unwrap_or}, BTreeMap.{get_by}, Map.{lookup}, Ordering.{is_eq}, Cmp.Lexicographic.{slice_cmp}, Str.{bytes_eq}}
-use Rattle.rio_types.proofs.MapLaws.{bytes-insert}
+use Rattle.rio_format.proofs.MapLaws.{bytes-insert}
 use Rattle.rio_judge.proofs.batch.count_put.Goals as goal
 
 either : (b : Bool) (n : ℕ) (o : Option ℕ) → unwrap_or (cond b (Some n) o) 0 ≡ cond b n (unwrap_or o 0)

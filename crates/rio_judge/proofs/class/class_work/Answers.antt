@@ -1,6 +1,5 @@
 use Rattle.std.proofs.{Common.{◌≡◌, ◌++◌, ◌∷◌, [], ℕ, List, None, length, sym, ap, ◌∙◌, subst}, lemmas.Result.{err_from_is_err_and}}
-use Rattle.rio_format.specs.WrittenBytes.{written_list}
-use Rattle.rio_types.specs.declared.class.ClassDef.{ClassDef}
+use Rattle.rio_format.specs.{WrittenBytes.{written_list}, declared.class.ClassDef.{ClassDef}}
 use Rattle.rio_step.specs.Refusing.{first_of}
 use Rattle.rio_judge.specs.{Stops.{StopsAt}, declared.work.NewClass.{NewClass}}
 use Rattle.rio_judge.proofs.ClassTests.{count_tests, length_tests, name_tests, stopped, stops_at_count, stops_at_length, stops_at_name, stops_at_rules}

@@ -1,6 +1,6 @@
 use Rattle.std.proofs.Common.{ℕ, List, Ok, Err, IfOk, Result, rules, ap, ◌∙◌, sym, subst}
 use Rattle.rio_machine.specs.{declared.command.Command.{Command, TheVariants.{Class, Batch, Get}}, declared.refusal.Refusal.TheVariants.{BadLine}}
-use Rattle.rio_types.specs.declared.class.ClassDef.{ClassDef}
+use Rattle.rio_format.specs.declared.class.ClassDef.{ClassDef}
 use Rattle.rio_judge.specs.{Judging.{WorkCanBeDone}, Stops.{GoesByItems, as_item}, Trees.{AnyWorkCanBeDone}, declared.stop.Stop.{Stop, TheVariants.{Refused}}, declared.work.{AnyWork.{AnyWork, TheVariants.{Item}}, Work.TheVariants.{Ls as Listing}}}
 use Rattle.rio_judge.proofs.{AllWork.{goes_with_items, no_trees, sound_with_items}, GetTests.{bad_line_refused, list_accepted}}
 use Rattle.rio_judge.proofs.judging.work_of.Goals as goal

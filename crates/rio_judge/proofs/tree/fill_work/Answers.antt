@@ -1,7 +1,7 @@
 use Rattle.std.proofs.{Common.{◌≡◌, ◌++◌, ◌∙◌, List, None, ap, sym, subst}, lemmas.Result.{err_from_is_err_and}}
 use Rattle.std.specs.Prelude.{unwrap_or}
 use Rattle.rio_model.specs.Resolving.{resolved_row}
-use Rattle.rio_types.specs.declared.class.ClassDef.{ClassDef}
+use Rattle.rio_format.specs.declared.class.ClassDef.{ClassDef}
 use Rattle.rio_machine.specs.declared.command.Command.TheVariants.{Fill}
 use Rattle.rio_step.specs.Refusing.{first_of, refusal_of}
 use Rattle.rio_judge.specs.Stops.{StopsAt}

@@ -1,7 +1,7 @@
 use Rattle.std.proofs.Common.{◌≡◌, ◌∙◌, Some, false, rules, sym, SFits, w32}
 use Rattle.std.proofs.lemmas.Int.{to_z-of_z}
 use Rattle.std.specs.{Option.{option_map_or}, Ordering.{int_eq}}
-use Rattle.rio_types.specs.Classes.{find_in}
+use Rattle.rio_format.specs.Classes.{find_in}
 use Rattle.rio_model.specs.Resolving.{built_in_version}
 use Rattle.rio_map.proofs.VersionLaws.{as_described}
 use Rattle.rio_map.proofs.version.as_version.Goals as goal

@@ -1,6 +1,5 @@
 use Rattle.std.proofs.Common.{◌≡◌, ℕ, suc, ◌+◌, Bool, List, drop, if◌then◌else◌, sym, ap, ◌∙◌, arith}
-use Rattle.rio_types.specs.declared.class.Base.{Base}
-use Rattle.rio_value.specs.declared.value.Part.{Part}
+use Rattle.rio_format.specs.{declared.class.Base.{Base}, declared.value.Part.{Part}}
 use Rattle.rio_model.specs.Mapping.{after_bases}
 use Rattle.rio_map.proofs.VersionLaws.{passes}
 use Rattle.rio_map.proofs.version.base_parts.Goals as goal

@@ -1,7 +1,6 @@
 use Rattle.std.proofs.{Common.{◌≡◌, ◌<◌, ◌+◌, ℕ, List, [], ◌∷◌, ◌++◌, drop, Some, None, rules, SFits, w32, sym, ap, subst, ◌∙◌, arith}, lemmas.Int.{to_z-of_z}}
 use Rattle.std.specs.Option.{option_map}
-use Rattle.rio_value.specs.declared.value.Part.{Part}
-use Rattle.rio_format.specs.{Bodies.{part}, Slots.{Field, Slot}}
+use Rattle.rio_format.specs.{declared.value.Part.{Part}, Bodies.{part}, Slots.{Field, Slot}}
 use Rattle.rio_model.specs.Mapping.{parts_zero, slot_zero, zero_version, zero_within}
 use Rattle.rio_map.proofs.LevelLaws.{more_levels, no_levels, not_known}
 use Rattle.rio_map.proofs.StepLaws.{zero_goes_on, zero_lacks, zeros_end}

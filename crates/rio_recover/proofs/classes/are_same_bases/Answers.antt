@@ -1,4 +1,4 @@
-use Rattle.rio_types.proofs.EqualLaws.{bases_decide}
+use Rattle.rio_format.proofs.ClassEqualLaws.{bases_decide}
 use Rattle.rio_recover.proofs.classes.are_same_bases.Goals as goal
 
 pub returns : goal.returns

@@ -1,4 +1,4 @@
-use Rattle.rio_types.proofs.EqualLaws.{classes_decide}
+use Rattle.rio_format.proofs.ClassEqualLaws.{classes_decide}
 use Rattle.rio_recover.proofs.classes.are_same_classes.Goals as goal
 
 pub returns : goal.returns

@@ -1,7 +1,7 @@
 use Rattle.std.proofs.{Common.{◌≡◌, ◌<◌, ℕ, List, get_or, Option, Some, length, refl, subst, sym, arith}, lemmas.Option.{slice_get_read}}
 use Rattle.std.specs.List.{slice_get}
-use Rattle.rio_types.specs.declared.class.ClassDef.{ClassDef}
-use Rattle.rio_types.proofs.ChainLaws.{end_of}
+use Rattle.rio_format.specs.declared.class.ClassDef.{ClassDef}
+use Rattle.rio_format.proofs.ChainLaws.{end_of}
 use Rattle.rio_registry.proofs.HeldWalk.{IsAdded, add_begins, add_ends, add_falls, add_steps}
 use Rattle.rio_registry.proofs.reach.add_held.Goals as goal
 

@@ -1,4 +1,4 @@
-use Rattle.rio_types.proofs.ChainLaws.{end_of}
+use Rattle.rio_format.proofs.ChainLaws.{end_of}
 use Rattle.rio_registry.proofs.HeldWalk.{IsAdded}
 use Rattle.rio_registry.proofs.reach.add_held.Given as goal
 

@@ -4,8 +4,7 @@ use Rattle.rio_key.specs.Key.{key_at}
 use Rattle.rio_head.specs.{declared.fault.FileFault.TheVariants.{BadInfo}, Head.{fault_at}}
 use Rattle.rio_dir.specs.Closed.{or_fault}
 use Rattle.rio_close.proofs.Listed.{standing_here}
-use Rattle.rio_format.specs.ClassList.{class_list_at}
-use Rattle.rio_buffer.specs.declared.fault.ObjFault.TheVariants.{NoMemory}
+use Rattle.rio_format.specs.{ClassList.{class_list_at}, declared.fault.ObjFault.TheVariants.{NoMemory}}
 use Rattle.rio_report.proofs.Infos.{info_read, same_list}
 use Rattle.rio_report.proofs.described.read_classes.Goals as goal
 

@@ -2,7 +2,7 @@ use Rattle.std.proofs.Common.{◌≡◌, ◌≤◌, ◌+◌, List, ℕ, length, 
 use Rattle.std.specs.{List.{range_with_len}, Option.{option_or}}
 use Rattle.rio_host.proofs.ReadsLaws.{reads_join, reads_none}
 use Rattle.rio_machine.specs.declared.refusal.Refusal.{Refusal}
-use Rattle.rio_value.specs.declared.value.Value.{Value}
+use Rattle.rio_format.specs.declared.value.Value.{Value}
 use Rattle.rio_entry.specs.{declared.lane.Lane.{Lane}, Lanes.{AreLanes}, BranchRows.{row_at}}
 use Rattle.rio_entry.proofs.{Left.{only_new}, Walks.{lanes_later}}
 use Rattle.rio_report.proofs.SeenLaws.{refused_end, refused_from, refused_next, told_first, told_none}

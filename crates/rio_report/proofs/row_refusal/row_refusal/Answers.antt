@@ -1,7 +1,7 @@
 use Rattle.std.proofs.Common.{true≢false, List, Option, sym, ap, ◌∙◌}
 use Rattle.rio_machine.specs.declared.refusal.Refusal.{Refusal}
 use Rattle.rio_tree.specs.declared.refusal.BranchRefusal.{BranchRefusal}
-use Rattle.rio_value.specs.declared.value.Value.{Value}
+use Rattle.rio_format.specs.declared.value.Value.{Value}
 use Rattle.rio_step.specs.Refusing.{row_seen_in}
 use Rattle.rio_entry.specs.{declared.tree_row.TreeRow.{TreeRow}, Refusals.{refusals_of}, BranchRows.{read_values, values_at_entry}, Sweeps.{sweep}}
 use Rattle.rio_report.specs.RowForms.{refused_by}

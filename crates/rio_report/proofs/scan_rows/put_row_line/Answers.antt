@@ -1,7 +1,7 @@
 use Rattle.std.proofs.Common.{◌≡◌, ◌++◌, true≢false, List, None, Option, sym, ap, ◌∙◌}
 use Rattle.rio_num.specs.Room.{Room}
 use Rattle.rio_tree.specs.declared.refusal.BranchRefusal.{BranchRefusal}
-use Rattle.rio_value.specs.declared.value.Value.{Value}
+use Rattle.rio_format.specs.declared.value.Value.{Value}
 use Rattle.rio_step.specs.Refusing.{row_seen_in}
 use Rattle.rio_entry.specs.{declared.tree_row.TreeRow.{TreeRow}, Refusals.{refusals_of}, BranchRows.{read_values, row_at, values_at_entry}, Sweeps.{sweep}}
 use Rattle.rio_entry.proofs.{CheckedRows.{all_is_made}, SweepLaws.{last_row}}

@@ -1,5 +1,5 @@
 use Rattle.std.proofs.Common.{◌≡◌, ◌∙◌, ℕ, List, sym, ap}
-use Rattle.rio_types.specs.declared.class.ClassDef.{ClassDef}
+use Rattle.rio_format.specs.declared.class.ClassDef.{ClassDef}
 use Rattle.rio_tree.specs.declared.head.Branch.{Branch}
 use Rattle.rio_entry.proofs.Left.{if_ok_more}
 use Rattle.rio_report.specs.Summary.{basket_count, declared_in, summary_to}

@@ -1,6 +1,6 @@
 use Rattle.std.proofs.Common.{List, subst}
 use Rattle.rio_num.specs.Answers.{GivesUnless}
-use Rattle.rio_value.specs.declared.value.Value.{Value}
+use Rattle.rio_format.specs.declared.value.Value.{Value}
 use Rattle.rio_model.specs.{Mapping.{Mapped}, declared.map_fault.MapFault.TheVariants.{NoMemory}}
 use Rattle.rio_entry.specs.BranchRows.{read_values}
 use Rattle.rio_report.proofs.SeenLaws.{seen_is}

@@ -1,5 +1,5 @@
 use Rattle.std.proofs.{Common.{◌≡◌, List, None, drop, get_or, ◌+◌, sym, ap, ◌∙◌, arith}, lemmas.Result.{err_from_is_err_and}}
-use Rattle.rio_value.specs.declared.value.Value.{Value}
+use Rattle.rio_format.specs.declared.value.Value.{Value}
 use Rattle.rio_step.specs.Refusing.{row_seen_by}
 use Rattle.rio_report.specs.{RowTexts.{values_unrefused}, Versions.{seen_behind, value_seen_in}}
 use Rattle.rio_entry.specs.BranchRows.{read_values}

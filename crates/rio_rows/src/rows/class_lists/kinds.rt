@@ -2,7 +2,7 @@
 use super::classes_in;
 use super::pieces::{Piece, bytes_of};
 use Piece::{Counted, Element, Hex, Int, Named, New, Text};
-use rio_buffer::ObjFault;
+use rio_format::ObjFault;
 use rio_num::{Bytes, NoMemory};
 use std::alloc::Global;
 

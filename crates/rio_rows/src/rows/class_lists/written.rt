@@ -5,7 +5,7 @@ use crate::rows::classes::{ClassRow, Holds, classes_of};
 use crate::rows::hex::{hex_bytes, put_hex};
 use rio_info::{info_length, info_length_with, write_info};
 use rio_num::{Bytes, NoMemory};
-use rio_types::{Classes, Prim};
+use rio_format::{Classes, Prim};
 use std::alloc::Global;
 
 // The front of the list for Node alone, whose first byte has the place 64.

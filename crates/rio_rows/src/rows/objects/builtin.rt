@@ -1,20 +1,13 @@
-//! Small built-in objects that are read and written by themselves.
+//! A small built-in object that is written and read by itself.
 ghost use Rattle.std.specs.Prelude.{◌≡◌, ◌≤◌, [], ◌∷◌, length, pos, codes, IfOk, IsTrue};
-ghost use Rattle.rio_format.specs.Objects.{bare_object, pid_part};
-ghost use Rattle.rio_format.specs.Written.{written_form};
-ghost use Rattle.rio_format.specs.BuiltIn.{is_small_builtin};
-ghost use Rattle.rio_value.specs.declared.value.Value.{Int};
+ghost use Rattle.rio_format.specs.{Objects.{bare_object, pid_part}, Written.{written_form}, BuiltIn.{is_small_builtin}, declared.value.Value.{Int}};
 ghost use Rattle.rio_write.specs.Small.{IsSmallObject};
 
-use super::values::{STRING, Tree, value_of};
 use crate::rows::hex::is_hex_of;
-use Tree::{Int, List, Object, TObject, Text};
-use rio_buffer::{ObjFault, ObjReader, ObjWriter};
+use rio_format::{Classes, ObjFault, ObjReader, ObjWriter, Part, Parts, Value};
 use rio_num::{Bytes, Name, NoMemory};
-use rio_stream::{fits, read_builtin, write_builtin, written_length};
-use rio_types::Classes;
+use rio_stream::{read_builtin, write_builtin, written_length};
 use rio_valtext::print_value;
-use rio_value::{Part, Parts, Value};
 use std::alloc::Global;
 
 // Appends the text of the next object of the class.
@@ -30,52 +23,6 @@ fn put_builtin(
     Ok(print_value(&value, printed)?)
 }
 
-// What is told of a TObject of version 2.
-fn put_later_version(printed: &mut Bytes) -> Result<(), ObjFault> {
-    let classes = Classes::new(printed.allocator());
-    let mut reader = ObjReader::new(printed.allocator(), b"\0\x02\0\0\0\0\0\0\0\0", 7);
-    put_builtin(printed, &classes, &mut reader, b"TObject")
-}
-
-#[test]
-fn refuses_a_built_in_one(rt: HostRuntime) {
-    let mut printed = Bytes::new(rt.alloc());
-    assert!(rt; put_later_version(&mut printed) == Err(ObjFault::NoCount { place: 7 }));
-}
-
-const TWO: &[u8] = b"TObject#1{fUniqueID: 0, fBits: 0}TArrayC#1{items: [7]}";
-
-fn are_put(printed: &mut Bytes, classes: &Classes, reader: &mut ObjReader) -> bool {
-    put_builtin(printed, classes, reader, b"TObject").is_ok()
-        && put_builtin(printed, classes, reader, b"TArrayC").is_ok()
-        && printed.as_slice() == TWO
-        && reader.left() == 0
-}
-
-fn are_read(alloc: Global) -> bool {
-    let classes = Classes::new(alloc);
-    let mut reader = ObjReader::new(alloc, b"\0\x01\0\0\0\0\0\0\0\0\0\0\0\x01\x07", 0);
-    let mut printed = Bytes::new(alloc);
-    are_put(&mut printed, &classes, &mut reader)
-}
-
-#[test]
-fn reads_one_behind_the_other(rt: HostRuntime) {
-    assert!(rt; are_read(rt.alloc()));
-}
-
-const NAMED: Tree = Object(
-    "TNamed",
-    1,
-    &[
-        ("", TObject(0)),
-        ("fName", Text("n")),
-        ("fTitle", Text("t")),
-    ],
-);
-
-const INTEGERS: Tree = Object("TArrayI", 1, &[("items", List(&[Int(1), Int(-1)]))]);
-
 // What is put into a writer for the object.
 fn put_object(alloc: Global, value: &Value) -> Result<Bytes, NoMemory>
     requires value { IsSmallObject value.now }
@@ -84,51 +31,6 @@ fn put_object(alloc: Global, value: &Value) -> Result<Bytes, NoMemory>
     let mut writer = ObjWriter::new(alloc, 34);
     write_builtin(alloc, &mut writer, value)?;
     Ok(writer.into_bytes())
-}
-
-// What is put into a writer for the object, where it fits its class.
-fn put(alloc: Global, class: &[u8], value: &Value) -> Result<Option<Bytes>, NoMemory>
-    requires { IsTrue (is_small_builtin class.now) }
-{
-    let classes = Classes::new(alloc);
-    if !fits(alloc, &classes, class, value)? {
-        return Ok(None);
-    }
-    let length = written_length(alloc, &classes, value)?;
-    if length > 16_777_216 {
-        return Ok(None);
-    }
-    Ok(Some(put_object(alloc, value)?))
-}
-
-// Whether the value fits its class, and these bytes are put for it.
-fn is_put(alloc: Global, class: &[u8], value: &Value, text: &str) -> bool
-    requires { IsTrue (is_small_builtin class.now) }
-{
-    match put(alloc, class, value) {
-        Ok(Some(bytes)) => is_hex_of(alloc, text, bytes.as_slice()),
-        _ => false,
-    }
-}
-
-fn is_row_put(alloc: Global, class: &[u8], tree: &Tree, text: &str) -> bool
-    requires { IsTrue (is_small_builtin class.now) }
-{
-    match value_of(alloc, tree) {
-        Ok(value) => is_put(alloc, class, &value, text),
-        Err(_) => false,
-    }
-}
-
-#[test]
-fn writes_builtin_objects(rt: HostRuntime) {
-    let alloc = rt.alloc();
-    assert!(rt; is_row_put(alloc, b"TObject", &TObject(0), "0001 00000005 00000000"));
-    let named = "40000010 0001 0001 00000005 00000000 01 6E 01 74";
-    assert!(rt; is_row_put(alloc, b"TNamed", &NAMED, named));
-    let string = "4000000F 0001 0001 00000005 00000000 02 6869";
-    assert!(rt; is_row_put(alloc, b"TObjString", &STRING, string));
-    assert!(rt; is_row_put(alloc, b"TArrayI", &INTEGERS, "00000002 00000001 FFFFFFFF"));
 }
 
 fn named_part(alloc: Global, name: &[u8], value: Value) -> Result<Part, NoMemory>

@@ -1,5 +1,5 @@
 use Rattle.std.proofs.Common.{◌∙◌, ℕ, List, map, Option, refl, sym, ap, subst}
-use Rattle.rio_types.specs.declared.class.ClassDef.{ClassDef}
+use Rattle.rio_format.specs.declared.class.ClassDef.{ClassDef}
 use Rattle.rio_key.specs.declared.head.KeyHead.{KeyHead}
 use Rattle.rio_model.specs.StateClasses.{StateClasses}
 use Rattle.rio_recover.specs.{Classes.{HasListCycle}, Closable.{IsClosable}, Trees.{places_of}, declared.trees.TreeAt.{TreeAt}}

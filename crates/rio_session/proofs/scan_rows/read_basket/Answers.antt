@@ -1,6 +1,6 @@
 use Rattle.std.proofs.Common.{List, sym, ap, subst, ◌∙◌}
 use Rattle.std.specs.List.{Contains}
-use Rattle.rio_basket.specs.Entries.{entries_in}
+use Rattle.rio_key.specs.BasketEntries.{entries_in}
 use Rattle.rio_chain.specs.Segments.{RecordAt}
 use Rattle.rio_session.proofs.OtherSteps.{one_record}
 use Rattle.rio_session.proofs.scan_rows.read_basket.Goals as goal

@@ -1,5 +1,5 @@
 use Rattle.std.proofs.Common.{◌≡◌, ◌∙◌, [], ap, rules, sym}
-use Rattle.rio_value.specs.declared.value.Value.{out-Value}
+use Rattle.rio_format.specs.declared.value.Value.{out-Value}
 use Rattle.rio_tree.specs.{Labels.{labelled_in, or_labelled}, Tables.{labels_of}}
 use Rattle.rio_tree.proofs.LabelLaws.{labelled-List, labelled-Object, labelled-Pointed, labelled_all, labelled_behind, labelled_by_layer, labelled_more, labelled_none, layer_labelled}
 use Rattle.rio_tree.proofs.labels.+labels.Goals as goal

@@ -1,5 +1,5 @@
 use Rattle.std.proofs.Common.{◌≡◌, ◌++◌, pos, drop, map}
-use Rattle.rio_value.specs.declared.value.Value.{Int}
+use Rattle.rio_format.specs.declared.value.Value.{Int}
 use Rattle.rio_tree.specs.WrittenBaskets.{number_of_basket}
 use Rattle.rio_tree.proofs.written_baskets.basket_numbers.Given as goal
 

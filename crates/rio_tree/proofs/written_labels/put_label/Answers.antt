@@ -1,7 +1,7 @@
 use Rattle.std.proofs.{Common.{ℕ, Bool, cond, Option, Some, ap, ◌∙◌, nat_cmp}, lemmas.Map.Text.{is_eq-slice_cmp}}
 use Rattle.std.specs.{Map.{lookup}, Ordering.{is_eq}, Cmp.Lexicographic.{slice_cmp}, Str.{bytes_eq}}
-use Rattle.rio_types.proofs.MapLaws.{bytes-insert}
-use Rattle.rio_types.specs.Index.{name_place}
+use Rattle.rio_format.proofs.MapLaws.{bytes-insert}
+use Rattle.rio_format.specs.Index.{name_place}
 use Rattle.rio_tree.proofs.written_labels.put_label.Goals as goal
 
 pub returns-clause-ok : goal.returns-clause-ok

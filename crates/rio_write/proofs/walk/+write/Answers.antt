@@ -1,9 +1,7 @@
 use Rattle.std.proofs.{Common.{rules, ◌≡◌, ◌<◌, None, SFits, w32, map, refl, sym, ap, ◌∙◌, inl, inr, length}, lemmas.Int.{to_z-of_z}}
 use Rattle.std.specs.Int.{w16, w128, cast_unsigned}
 use Rattle.byteorder.specs.Endian.{big_bytes}
-use Rattle.rio_types.specs.declared.kind.Kind.TheVariants.{Inline}
-use Rattle.rio_value.specs.declared.value.Value.{the_lemmas}
-use Rattle.rio_format.specs.{Bodies.{form_of}, Slots.{Field, declared_body, kinded}, Written.{body_bytes, form_bytes, writing_of}}
+use Rattle.rio_format.specs.{declared.kind.Kind.TheVariants.{Inline}, declared.value.Value.{the_lemmas}, Bodies.{form_of}, Slots.{Field, declared_body, kinded}, Written.{body_bytes, form_bytes, writing_of}}
 use Rattle.rio_write.specs.{Sinks.{Accepted, RoomFor}, Writing.{part_writing}}
 use Rattle.rio_write.proofs.SinkLaws.{can_point, fields_end, header_body_room, header_closes, headed_accepted, item_fits, items_end, items_go, leads_first, nothing_accepted, object_room, part_fits, parts_end, parts_go, pointer_accepted, pointer_closes, text_is_short}
 use Rattle.rio_write.proofs.SinkParts.{link_room, link_text_room, link_writes, no_link, counted_room, counted_writes, none_counted, array_room, array_writes, no_array, id_room, bits_room, bare_writes, no_bare, pid_bits_room, pid_id_room, pid_room, pid_writes, list_base_room, list_name_room, links_room, listed_writes, no_listed, array_base_room, array_name_room, lower_room, pointers_room, arrayed_writes, no_arrayed}

@@ -1,8 +1,6 @@
 use Rattle.std.proofs.Common.{◌≡◌, ◌≤◌, ◌+◌, ◌-◌, ◌^◌, ℕ, List, length, sym, ap, ◌∙◌, subst, arith}
 use Rattle.rio_num.specs.Room.{Room, room_of}
-use Rattle.rio_types.specs.declared.kind.Kind.TheVariants.{Inline}
-use Rattle.rio_buffer.specs.{ReaderState.{no_words}, Writer.{nothing_written}}
-use Rattle.rio_format.specs.{Slots.{kinded}, Objects.{SpellsObject}, Written.{writing_of, written_form}}
+use Rattle.rio_format.specs.{declared.kind.Kind.TheVariants.{Inline}, ReaderState.{no_words}, Writer.{nothing_written}, Slots.{kinded}, Objects.{SpellsObject}, Written.{writing_of, written_form}}
 use Rattle.rio_format.proofs.WrittenValues.{written_is_spelled}
 use Rattle.rio_write.specs.{Sinks.{StandsWithin}, Writing.{HasRoom}}
 use Rattle.rio_write.proofs.{Taking.{whole_written}, WriteLaws.{first_room}}

@@ -1,8 +1,6 @@
 use Rattle.std.proofs.Common.{ℕ, List, length, ap, ◌∙◌}
 use Rattle.std.specs.Prelude.{min}
-use Rattle.rio_types.specs.declared.kind.Kind.TheVariants.{Inline}
-use Rattle.rio_buffer.specs.ReaderState.{no_words}
-use Rattle.rio_format.specs.{Slots.{kinded}, Written.{writing_of}}
+use Rattle.rio_format.specs.{declared.kind.Kind.TheVariants.{Inline}, ReaderState.{no_words}, Slots.{kinded}, Written.{writing_of}}
 use Rattle.rio_write.specs.{Measuring.{too_long}, Sinks.{Accepted, StandsWithin}}
 use Rattle.rio_write.proofs.Counting.{whole_counted}
 use Rattle.rio_write.proofs.write.written_length.Goals as goal

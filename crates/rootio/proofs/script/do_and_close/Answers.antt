@@ -18,8 +18,7 @@ returns-in_err-do_commands g c =
       stops = c.in_err-do_commands.ensures.stops;
       done = IfOk-from_err c.from_residual.result _ c.from_residual.ensures.0;
       unclosed = λ m text stands.
-          rw (p.1, p.2) (stays_open (session_run Printed c.args.session stands.state.links m c.args.commands.now) text (g.H.Host.view c.do_commands.new.host) c.in_err-do_commands.field-0.0 (c.in_err-do_commands.ensures.unclosed m text stands)
-          (λ e. c.in_err-do_commands.ensures.unsaid e m text stands));
+          rw (p.1, p.2) (stays_open (session_run Printed c.args.session stands.state.links m c.args.commands.now) text (g.H.Host.view c.do_commands.new.host) c.in_err-do_commands.field-0.0 (c.in_err-do_commands.ensures.unclosed m text stands));
       told = c.in_err-do_commands.ensures.told;
       said = c.in_err-do_commands.ensures.said;
       room = c.in_err-do_commands.ensures.room;

@@ -1,9 +1,10 @@
+use Rattle.std.proofs.Common.{arith}
 use Rattle.std.proofs.lemmas.Result.{IfOk-from_err, err_from_is_err_and}
 use Rattle.rio_host.proofs.PiecesLaws.{grown_join}
 use Rattle.rio_machine.specs.declared.command.Outcome.{Outcome}
 use Rattle.rio_session.specs.declared.replies.Replies.TheVariants.{Printed}
 use Rattle.rootio.proofs.StatableCommands.{statable_at}
-use Rattle.rootio.proofs.{Doing.{all_done, cause_behind, does_next, leaves_open, nothing_yet, room_there, stops_there, unsaid_there}, Untouched.{any_join}}
+use Rattle.rootio.proofs.{Doing.{all_done, cause_behind, does_next, ends_at, leaves_open, nothing_yet, room_there, stops_there, unsaid_there}, Untouched.{any_join}}
 use Rattle.rootio.proofs.script.do_commands.Goals as goal
 
 pub loop-command-init : goal.loop-command-init
@@ -30,14 +31,17 @@ returns-in_err-apply g c =
           stops_there Printed (g.H.Host.view c.args.host.now) (g.H.Host.view c.loop-command.host) (g.H.Host.view c.apply.new.host) c.args.session.now c.loop-command.session c.apply.new.self
           c.args.commands.now c.loop-command.command-index c.command-item.result c.loop-command-test.true c.command-item.is c.loop-command.invariant
           c.in_err-apply.ensures.file.any_moment c.in_err-apply.ensures.marks file text m stands;
-      unclosed = rw p.1 (λ m text stands.
-          leaves_open Printed (g.H.Host.view c.args.host.now) (g.H.Host.view c.loop-command.host) (g.H.Host.view c.apply.new.host) c.args.session.now c.loop-command.session
+      unclosed = λ m text stands. rw (p.1, p.2) (
+          ends_at Printed (g.H.Host.view c.args.host.now) (g.H.Host.view c.loop-command.host) (g.H.Host.view c.apply.new.host) c.args.session.now c.loop-command.session
+          c.args.commands.now c.loop-command.command-index (let lt = c.loop-command-test.true in omega (arith, lt)) c.loop-command.invariant m text stands
+          c.in_err-apply.field-0.0 (g.met.H.Host.lawful c.apply.new.host)
+          (leaves_open Printed (g.H.Host.view c.args.host.now) (g.H.Host.view c.loop-command.host) (g.H.Host.view c.apply.new.host) c.args.session.now c.loop-command.session
           c.args.commands.now c.loop-command.command-index c.command-item.result c.loop-command.invariant (g.met.H.Host.lawful c.apply.new.host)
-          c.in_err-apply.ensures.file.any_moment m text stands);
-      unsaid = rw (p.1, p.2) (
-          unsaid_there Printed (g.H.Host.view c.args.host.now) (g.H.Host.view c.loop-command.host) (g.H.Host.view c.apply.new.host) c.args.session.now c.loop-command.session c.apply.new.self
+          c.in_err-apply.ensures.file.any_moment m text stands)
+          (λ none. (c.in_err-apply.ensures.kept.no_memory none).1) c.in_err-apply.ensures.text.silent
+          (λ e. unsaid_there Printed (g.H.Host.view c.args.host.now) (g.H.Host.view c.loop-command.host) (g.H.Host.view c.apply.new.host) c.args.session.now c.loop-command.session c.apply.new.self
           c.args.commands.now c.loop-command.command-index c.command-item.result c.loop-command-test.true c.command-item.is c.loop-command.invariant c.in_err-apply.field-0.0
-          c.in_err-apply.ensures.file.unsaid c.in_err-apply.ensures.text.part c.in_err-apply.ensures.marks);
+          c.in_err-apply.ensures.file.unsaid c.in_err-apply.ensures.text.part c.in_err-apply.ensures.marks e m text stands));
       room = λ m text stands none.
           room_there Printed (g.H.Host.view c.args.host.now) (g.H.Host.view c.loop-command.host) (g.H.Host.view c.apply.new.host) c.args.session.now c.loop-command.session c.apply.new.self
           c.args.commands.now c.loop-command.command-index c.command-item.result c.loop-command-test.true c.command-item.is c.loop-command.invariant c.in_err-apply.field-0.0
@@ -63,8 +67,7 @@ returns g c =
       room = λ m text stands none said told k command there long.
           (all_done Printed (g.H.Host.view c.args.host.now) (g.H.Host.view c.loop-command.host) c.args.session.now c.loop-command.session c.args.commands.now c.loop-command.command-index
           c.loop-command-test.false doing m text stands).room none k command there;
-      unclosed = tt;
-      unsaid = λ e. absurd cc;
+      unclosed = λ m text stands. tt;
       ready = doing.ready;
       fresh = doing.fresh;
       told = doing.told;

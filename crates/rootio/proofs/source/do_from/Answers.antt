@@ -1,10 +1,10 @@
-use Rattle.std.proofs.{Common.{◌++◌, Some}, lemmas.Result.{IfOk-from_err, err_from_is_err_and}}
-use Rattle.rio_host.proofs.PiecesLaws.{grown_join}
+use Rattle.std.proofs.{Common.{◌++◌, Some, refl}, lemmas.Result.{IfOk-from_err, err_from_is_err_and}}
+use Rattle.rio_host.proofs.{PiecesLaws.{grown_join}, ReadsLaws.{reads_none}}
 use Rattle.rio_csv.specs.Unread.{TakesFirst}
 use Rattle.rio_machine.specs.declared.command.Outcome.{Outcome}
 use Rattle.rootio.specs.{Headline.{replies}, Script.{commands_in, session_run}}
-use Rattle.rootio.proofs.{Doing.{all_done, cause_behind, does_next, fault_again, leaves_open, room_there, stops_there, unsaid_there}, Room.{room_between}, Untouched.{any_join}}
-use Rattle.rootio.proofs.{Feeding.{begins_from, fewer_left, goes_on, next_is, next_statable, next_within, none_left}, RunStops.{behind}, Unclosed.{stands_open}}
+use Rattle.rootio.proofs.{Doing.{all_done, cause_behind, does_next, ends_at, fault_again, leaves_open, room_there, stands_between, stops_there, unsaid_there}, Room.{room_between}, Untouched.{any_join}}
+use Rattle.rootio.proofs.{Feeding.{begins_from, fewer_left, goes_on, next_is, next_statable, next_within, none_left}, RunStops.{behind}}
 use Rattle.rootio.proofs.source.do_from.Goals as goal
 
 pub each-init : goal.each-init
@@ -107,10 +107,9 @@ returns-in_err-command g c =
     let all = commands_in (g.C.CommandSource.left c.args.commands.now) in
     record {
       stops = λ file text m stands. (so.doing.sofar m text stands).time file;
-      unclosed = rw p.1 (λ m text stands.
-          let r = session_run c.args.replies c.args.session.now stands.state.links m all in
-          stands_open v v c.each.session (behind r so.k) (text ++ replies r so.k) so.doing.ready (so.doing.sofar m text stands).stands);
-      unsaid = rw (p.1, p.2) (λ e. absurd cc);
+      unclosed = λ m text stands. rw (p.1, p.2) (
+          stands_between c.args.replies (g.H.Host.view c.args.host.now) v v c.args.session.now c.each.session all so.k so.within so.doing m text stands
+          (g.met.H.Host.lawful c.each.host) (reads_none v) refl);
       no_say_fault = λ omitted. rw (p.1, p.2) (λ e. absurd cc);
       room = λ m text stands none.
           let r = session_run c.args.replies c.args.session.now stands.state.links m all in
@@ -144,10 +143,11 @@ returns-in_err-do_command g c =
     let e = c.in_err-do_command.ensures in
     record {
       stops = λ file text m stands. stops_there c.args.replies start v v1 first s s1 all so.k command within is so.doing e.file.any_moment e.marks file text m stands;
-      unclosed = rw p.1 (λ m text stands.
-          leaves_open c.args.replies start v v1 first s all so.k command so.doing (g.met.H.Host.lawful c.do_command.new.host) e.file.any_moment m text stands);
-      unsaid = rw (p.1, p.2)
-          (unsaid_there c.args.replies start v v1 first s s1 all so.k command within is so.doing c.in_err-do_command.field-0.0 e.file.unsaid e.text.part e.marks);
+      unclosed = λ m text stands. rw (p.1, p.2) (
+          ends_at c.args.replies start v v1 first s all so.k so.within so.doing m text stands c.in_err-do_command.field-0.0 (g.met.H.Host.lawful c.do_command.new.host)
+          (leaves_open c.args.replies start v v1 first s all so.k command so.doing (g.met.H.Host.lawful c.do_command.new.host) e.file.any_moment m text stands)
+          (λ none. (e.kept.no_memory none).1) e.text.silent
+          (λ f. unsaid_there c.args.replies start v v1 first s s1 all so.k command within is so.doing c.in_err-do_command.field-0.0 e.file.unsaid e.text.part e.marks f m text stands));
       room = λ m text stands none.
           room_there c.args.replies start v v1 first s s1 all so.k command within is so.doing c.in_err-do_command.field-0.0 e.text.silent e.text.lacks e.text.part e.marks
           m text stands none;
@@ -174,8 +174,7 @@ returns g c =
       stops = λ file text m stands. (so.doing.sofar m text stands).time file;
       done = λ m text stands. has m text stands;
       room = λ m text stands none said told k command there long. (has m text stands).room none k command there;
-      unclosed = tt;
-      unsaid = λ e. absurd cc;
+      unclosed = λ m text stands. tt;
       no_say_fault = λ omitted e. absurd cc;
       ready = so.doing.ready;
       fresh = so.doing.fresh;

@@ -17,8 +17,7 @@ returns-in_err-do_from g c =
       stops = c.in_err-do_from.ensures.stops;
       done = IfOk-from_err c.from_residual.result _ c.from_residual.ensures.0;
       unclosed = λ m text stands.
-          rw (p.1, p.2) (stays_open (session_run c.args.replies c.args.session stands.state.links m (commands_in (g.C.CommandSource.left c.args.commands.now))) text (g.H.Host.view c.do_from.new.host) c.in_err-do_from.field-0.0 (c.in_err-do_from.ensures.unclosed m text stands)
-          (λ e. c.in_err-do_from.ensures.unsaid e m text stands));
+          rw (p.1, p.2) (stays_open (session_run c.args.replies c.args.session stands.state.links m (commands_in (g.C.CommandSource.left c.args.commands.now))) text (g.H.Host.view c.do_from.new.host) c.in_err-do_from.field-0.0 (c.in_err-do_from.ensures.unclosed m text stands));
       told = c.in_err-do_from.ensures.told;
       said = c.in_err-do_from.ensures.said;
       room = c.in_err-do_from.ensures.room;

@@ -1,7 +1,7 @@
 use Rattle.std.proofs.Common.{◌≡◌, ℕ, List, Bool, ◌||◌, ◌&&◌, sym, ap, ◌∙◌}
 use Rattle.std.specs.{List.{list_any}, Str.{bytes_eq}}
 use Rattle.rio_num.specs.Word.{is_among}
-use Rattle.rio_types.specs.declared.class.Member.{Member}
+use Rattle.rio_format.specs.declared.class.Member.{Member}
 use Rattle.rio_model.specs.ClassGrammar.{is_i32}
 use Rattle.rio_decl.proofs.{KnownLaws.{false_and, true_and, with_last}, known.KnownMembers.with.Goals.{then-may_count+in_ok-note, else-may_count}}
 use Rattle.rio_decl.proofs.known.KnownMembers.with.Goals as goal

@@ -1,7 +1,7 @@
 use Rattle.std.proofs.Common.{ℕ, List, Result, subst, ap, ◌∙◌}
 use Rattle.rio_leaf.specs.{Stated.{are_stated_branches}}
 use Rattle.rio_num.specs.Answers.{GivesUnless}
-use Rattle.rio_value.specs.declared.value.Value.{Value}
+use Rattle.rio_format.specs.declared.value.Value.{Value}
 use Rattle.rio_machine.specs.declared.entry_fault.EntryFault.{EntryFault, TheVariants.{NoMemory as OutOfMemory}}
 use Rattle.rio_fill.specs.{Fill.{BranchFill, TreeFill, defs_of}, Prepare.{row_prepared}}
 use Rattle.rio_fill.proofs.Walked.{if_prepared}

@@ -1,6 +1,6 @@
 use Rattle.std.proofs.{Common.{◌*◌, ◌≤◌, arith}, Math.Nat.{div-mul-le_self, le-div_iff_mul-le}}
 use Rattle.rio_num.specs.{Layout.{any}, Meanings.{read}}
-use Rattle.rio_buffer.specs.declared.fault.ObjFault.TheVariants.{Short}
+use Rattle.rio_format.specs.declared.fault.ObjFault.TheVariants.{Short}
 use Rattle.rio_read.proofs.Passing.{enough, never_cut, taken, too_few}
 use Rattle.rio_read.proofs.pass.numbers.pass_numbers.Goals as goal
 

@@ -1,7 +1,6 @@
 use Rattle.std.proofs.{Common.{◌≡◌, rules}, lemmas.Result.{err_from_is_err_and}}
-use Rattle.rio_buffer.specs.{Frames.{pointer_word}, declared.words.PointerWord.TheVariants.{New}}
+use Rattle.rio_format.specs.{Frames.{pointer_word}, declared.words.PointerWord.TheVariants.{New}, Bodies.{body_of, listed}, Objects.{base_part, body, link, object_of, pointer}}
 use Rattle.rio_num.specs.Meanings.{read}
-use Rattle.rio_format.specs.{Bodies.{body_of, listed}, Objects.{base_part, body, link, object_of, pointer}}
 use Rattle.rio_read.proofs.PassedParts.{pointer_new, word_read, each_passed_on, each_passed_fails, each_passed_done, times_passed_on, times_passed_fails, times_passed_done, members_passed_on, members_passed_fail, members_passed_done}
 use Rattle.rio_read.proofs.pass.object.+passing.Goals as goal
 

@@ -1,6 +1,6 @@
 use Rattle.std.proofs.Common.{◌≡◌, List, [], ◌∷◌, ◌++◌, subst, sym, ap, ◌∙◌}
 use Rattle.rio_model.specs.Declaring.{declared}
-use Rattle.rio_types.specs.declared.class.ClassDef.{ClassDef}
+use Rattle.rio_format.specs.declared.class.ClassDef.{ClassDef}
 use Rattle.rio_registry.specs.Fronts.{AreClosed}
 use Rattle.rio_registry.proofs.ClosedLaws.{all_closed, closed_push, no_fault_known}
 use Rattle.rio_registry.proofs.registry.Registry.declare.Goals as goal

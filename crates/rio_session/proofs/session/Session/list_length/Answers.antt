@@ -1,7 +1,6 @@
 use Rattle.std.proofs.Common.{◌≡◌, ◌∙◌, ◌≤◌, ℕ, List, length, ap, subst, sym, arith}
 use Rattle.rio_num.specs.Room.{Room}
-use Rattle.rio_types.specs.declared.class.ClassDef.{ClassDef}
-use Rattle.rio_format.specs.WrittenBytes.{length_limit, written_list}
+use Rattle.rio_format.specs.{declared.class.ClassDef.{ClassDef}, WrittenBytes.{length_limit, written_list}}
 use Rattle.rio_model.specs.StateClasses.{StateClasses}
 use Rattle.rio_step.specs.Costs.{info_size}
 use Rattle.rio_session.specs.Session.{SessionState}

@@ -1,5 +1,5 @@
 use Rattle.std.proofs.Common.{◌∙◌, ◌≤◌, ℕ, List, length, ap, sym, subst, arith}
-use Rattle.rio_types.specs.declared.class.ClassDef.{ClassDef}
+use Rattle.rio_format.specs.declared.class.ClassDef.{ClassDef}
 use Rattle.rio_chain.specs.{Record.{FitsWords}, declared.key_words.KeyWords.{KeyWords}}
 use Rattle.rio_effect.specs.ObjectRecord.{object_data}
 use Rattle.rio_session.specs.{Puts.{stored_words}, Session.{SessionState}}

@@ -1,7 +1,7 @@
 use Rattle.std.proofs.{Common.{◌≡◌, ◌∙◌, ◌+◌, ◌-◌, ◌*◌, ◌<◌, ◌≤◌, ◌^◌, ℕ, List, Option, true, false, length, sum, sym, ap, subst, arith}, lemmas.Result.{err_from_is_err_and}}
 use Rattle.std.specs.{Prelude.{IfSome}, List.{find}}
 use Rattle.rio_num.proofs.Cases.{none_from}
-use Rattle.rio_types.specs.declared.class.ClassDef.{ClassDef}
+use Rattle.rio_format.specs.declared.class.ClassDef.{ClassDef}
 use Rattle.rio_model.specs.StateClasses.{StateClasses}
 use Rattle.rio_chain.specs.{Placing.{end_after, places_of, space_of}, Plans.{IsFull}}
 use Rattle.rio_chain.specs.declared.fault.PlanFault.TheVariants.{Full}

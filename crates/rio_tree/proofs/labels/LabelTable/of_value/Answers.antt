@@ -1,6 +1,6 @@
 use Rattle.std.proofs.Common.{◌∙◌, ℕ, List, Bor, ap, nat_eq}
 use Rattle.std.specs.{Map.{lookup}, Option.{option_map}}
-use Rattle.rio_value.specs.declared.value.Value.{Value}
+use Rattle.rio_format.specs.declared.value.Value.{Value}
 use Rattle.rio_tree.specs.Labels.{labelled_in, or_labelled}
 use Rattle.rio_tree.proofs.labels.LabelTable.of_value.Goals as goal
 

@@ -1,5 +1,5 @@
 use Rattle.byteorder.specs.Endian.{big_bytes}
-use Rattle.rio_buffer.specs.Writer.{begun}
+use Rattle.rio_format.specs.Writer.{begun}
 use Rattle.rio_write.proofs.Taking.{begun_opens}
 use Rattle.rio_write.proofs.sink.ObjWriterSink.take_header.Goals as goal
 

@@ -1,4 +1,4 @@
-use Rattle.rio_buffer.specs.Writer.{begun_pointer}
+use Rattle.rio_format.specs.Writer.{begun_pointer}
 use Rattle.rio_write.specs.Sinks.{CanPoint}
 use Rattle.rio_write.proofs.Taking.{begun_opens, held}
 use Rattle.rio_write.proofs.sink.ObjWriterSink.take_pointer.Goals as goal

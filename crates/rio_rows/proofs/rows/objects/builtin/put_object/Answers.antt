@@ -1,6 +1,5 @@
 use Rattle.std.proofs.Common.{[], ap, ◌∙◌}
-use Rattle.rio_buffer.specs.Writer.{WriterState, with_bytes}
-use Rattle.rio_format.specs.Written.{written_form}
+use Rattle.rio_format.specs.{Writer.{WriterState, with_bytes}, Written.{written_form}}
 use Rattle.rio_rows.proofs.rows.objects.builtin.put_object.Goals as goal
 
 pub into_bytes-requires : goal.into_bytes-requires

@@ -1,7 +1,0 @@
-use Rattle.std.proofs.Common.{◌≡◌, map}
-use Rattle.std.specs.List.{range_with_len}
-use Rattle.rio_basket.specs.Entries.{laid_entry}
-use Rattle.rio_basket.proofs.entries.read_basket.Given as goal
-
-abbrev pub invariant-loop-k : goal.invariant-loop-k
-invariant-loop-k l = l.entries ≡ map (laid_entry l.offsets l.layout l.bytes) (range_with_len 0 l.k)

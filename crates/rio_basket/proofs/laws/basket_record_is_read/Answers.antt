@@ -1,5 +1,0 @@
-use Rattle.rio_basket.proofs.WrittenBaskets.{are_basket_records}
-use Rattle.rio_basket.proofs.laws.basket_record_is_read.Goals as goal
-
-pub returns : goal.returns
-returns c = are_basket_records

@@ -1,5 +1,0 @@
-pub mod Frames
-pub mod Reader
-pub mod ReaderState
-pub mod Texts
-pub mod Writer

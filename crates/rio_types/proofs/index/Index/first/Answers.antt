@@ -1,6 +1,0 @@
-use Rattle.std.proofs.Common.{◌∙◌}
-use Rattle.rio_types.proofs.LeadLaws.{name_is_found}
-use Rattle.rio_types.proofs.index.Index.first.Goals as goal
-
-pub returns : goal.returns
-returns c = c.first_at.ensures ∙ name_is_found _ _ _ c.requires.names_lead

@@ -1,6 +1,0 @@
-pub mod Chain
-pub mod Classes
-pub mod CounterSet
-pub mod Index
-pub mod Members
-pub mod Places
