@@ -73,7 +73,7 @@ def described(line):
 
 class HandMade(File):
     def record(self, kind, name, title, data, length):
-        """A record of these data, which begin that far behind its first byte. Nothing follows them."""
+        """A record of these data, which begin that far from its first byte. Nothing follows them."""
         tail = text(kind) + text(name) + text(title)
         head = i32(length + len(data)) + u16(4) + u32(len(data)) + u32(1) + u16(length) + u16(1)
         head += self.wide(self.place) + self.wide(100) + tail
