@@ -37,7 +37,9 @@ fn prints_faults(rt: HostRuntime) -> Result<(), Fail> {
     let expected = "fewer than 4 bytes are left at 7; fewer than 4 bytes are left at 252; \
                     at 174: the record of the directory isn't whole";
     assert_eq!(rt; text.as_str(), expected);
-    assert!(rt; FileFault::BadKeyList.name() == "BadKeyList" && Reason::NoChain.name() == "NoChain");
+    assert!(rt;
+        FileFault::BadKeyList.name() == "BadKeyList" && Reason::NoChain.name() == "NoChain"
+    );
     let full = Refusal::Full {
         end: 1_999_999_000,
         wanted: 1000,

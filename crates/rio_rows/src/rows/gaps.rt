@@ -100,10 +100,7 @@ static REFUSED: [(&str, FreeFault); 8] = [
         "0001 0000010C 00000147 0001 00000147 00000183",
         FreeFault::BadOrder { place: 10 },
     ),
-    (
-        "0001 0000010C 0000010B",
-        FreeFault::BadOrder { place: 0 },
-    ),
+    ("0001 0000010C 0000010B", FreeFault::BadOrder { place: 0 }),
 ];
 
 fn are_read(alloc: Global, digits: &str, gaps: &[Gap]) -> bool {
