@@ -1,11 +1,10 @@
 -- No row changes a kind in a version that isn't known.
-use Rattle.std.proofs.Common.{◌≡◌, ◌∙◌, ℕ, List, [], ◌∷◌, Bool, true, false, ◌||◌, Option, Some, None, Ok, Err, refl, sym, ap, subst}
-use Rattle.std.proofs.lemmas.Bool.{not-true, or_parts}
+use Rattle.std.proofs.Common.{◌≡◌, ◌∙◌, ℕ, List, [], ◌∷◌, Bool, true, false, Option, Some, None, Ok, Err, refl, sym, ap, subst}
+use Rattle.std.proofs.lemmas.Bool.{not-true}
 use Rattle.std.specs.{Prelude.{is_some, ℤ, option_and_then, if◌then◌else◌}, FinMap.{get}, Option.{option_map_or}, Ordering.{int_eq}}
-use Rattle.rio_num.proofs.Cases.{none_from}
 use Rattle.rio_num.specs.Reading.{◌>>=◌}
 use Rattle.rio_format.specs.{Classes.{find_in}, declared.class.Base.{Base}, declared.class.ClassDef.{ClassDef}, declared.value.Value.{Value}}
-use Rattle.rio_model.specs.{Mapping.{Mapped, as_version, in_description}, Resolving.{built_in_version, is_known_version}}
+use Rattle.rio_model.specs.{Mapping.{Mapped, as_version, in_description, in_own_version}, Resolving.{built_in_version, is_known_version}}
 use Rattle.rio_model.specs.declared.map_fault.MapFault.TheVariants.{KindChanged, NoVersion, NoMemory}
 use Rattle.rio_machine.specs.State.{Row}
 use Rattle.rio_step.specs.Refusing.{change_in, row_seen_by, row_seen_in, rows_seen_in}
@@ -31,11 +30,16 @@ no_change (Err NoMemory) is = refl
 
 unversioned : (classes : List ClassDef) (class : List ℕ) (version : ℤ) (v : Value) → is_known_version classes class version ≡ false → as_version classes class version v ≡ Err NoVersion
 unfolding as_version
-unversioned classes class version v unknown =
-    let parts = or_parts (is_some (find_in classes class version)) (option_map_or (int_eq version) (built_in_version class) false) unknown in
-    let none = none_from (find_in classes class version) parts.0 in
-    ap (λ b. if b then Ok v else in_description classes class version v (find_in classes class version)) parts.1
-    ∙ ap (in_description classes class version v) none
+unversioned classes class version v = by (built_in_version class) (find_in classes class version)
+  where
+    not_own : (b : Bool) → b ≡ false → let r : Mapped Value = if b then Ok v else Err NoVersion in r ≡ Err NoVersion
+    not_own true e = absurd cc
+    not_own false e = refl
+
+    by : (built : Option ℤ) (found : Option ClassDef) → option_map_or (int_eq version) built (is_some found) ≡ false → option_map_or (in_own_version version v) built (in_description classes class version v found) ≡ Err NoVersion
+    by (Some own) found unknown = not_own (int_eq version own) unknown
+    by None None unknown = refl
+    by None (Some c) unknown = absurd cc
 
 module _ (classes : List ClassDef) (asked : Base) (unknown : is_known_version classes asked.name asked.version ≡ false) where
   row_unchanged : (row : Row) → IsUnchanged (row_seen_by (as_version classes asked.name asked.version) row)

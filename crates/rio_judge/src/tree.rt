@@ -27,7 +27,7 @@ use rio_format::{Base, ClassDef, Classes, Values};
 use rio_key::KeyHead;
 use rio_leaf::{BranchDef, BranchDefs, Shape};
 use rio_machine::{BRANCH_LIMIT, CYCLE_LIMIT, ITEM_LIMIT, LEAF_LIMIT, Refusal};
-use rio_model::built_in_version;
+use rio_model::is_known_version;
 use rio_num::Name;
 use rio_tree_table::TreeTable;
 use rio_valtext::resolved_row;
@@ -218,14 +218,6 @@ pub(crate) fn save_work(table: &KeyTable, trees: &TreeTable, name: &[u8]) -> Res
 
 // ---- a tree is scanned
 
-// Whether the class is declared or built in in the version.
-fn is_known_version(classes: &Classes, asked: &Base) -> bool
-    ensures { result ≡ is_known_version classes.now asked.now.name asked.now.version }
-{
-    let name = asked.name.as_slice();
-    classes.find(name, asked.version).is_some() || built_in_version(name) == Some(asked.version)
-}
-
 // The class is declared, and known in the version.
 fn check_version(classes: &Classes, asked: &Base) -> Result<(), Stop>
     ensures { GoesByTests (refused_if (not (is_declared classes.now asked.now.name))
@@ -236,7 +228,7 @@ fn check_version(classes: &Classes, asked: &Base) -> Result<(), Stop>
     if !is_declared(classes, asked.name.as_slice()) {
         return Err(Stop::Refused(Refusal::NoSuchClass));
     }
-    if !is_known_version(classes, asked) {
+    if !is_known_version(classes, asked.name.as_slice(), asked.version) {
         return Err(Stop::Refused(Refusal::NoVersion));
     }
     Ok(())

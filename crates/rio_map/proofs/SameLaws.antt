@@ -1,7 +1,7 @@
 -- A value that fits is itself in the version of the objects of a class in it.
 use Rattle.std.proofs.Common.{◌≡◌, ◌&&◌, ◌||◌, ◌==◌, ℕ, ℤ, List, [], ◌∷◌, ◌++◌, length, map, Bool, true, false, not, Option, Some, None, Ok, if◌then◌else◌, refl, sym, ap, subst, ◌∙◌}
 use Rattle.std.proofs.lemmas.{Bool.{and_parts, Decides.{Decides-int_eq}}, Option.{option_and_then_some}, Slice.Eq.{bytes_eq-Decides}}
-use Rattle.std.specs.{List.{list_all}, Option.{option_map_or}, Ordering.{int_eq}, Str.{bytes_eq}}
+use Rattle.std.specs.{Prelude.{is_some}, List.{list_all}, Option.{option_map_or}, Ordering.{int_eq}, Str.{bytes_eq}}
 use Rattle.rio_num.specs.Reading.{◌>>=◌}
 use Rattle.rio_num.proofs.Cases.{some_of}
 use Rattle.rio_format.specs.{Classes.{find_in}, declared.class.Base.{Base}, declared.class.ClassDef.{ClassDef}, declared.class.Member.{Member}, declared.kind.Kind.TheVariants.{Plain, Fixed, Text as Texted, Inline}}
@@ -258,17 +258,12 @@ module _ (classes : List ClassDef) (c : ClassDef) (plain : IsPlain c) (found : f
   })
 
 pub same_version_stays_so : SameVersionStays
-same_version_stays_so classes own class version v are fits known in_version =
-    by (option_map_or (int_eq version) (built_in_version class) false) refl
+same_version_stays_so classes own class version v are fits known in_version = by (built_in_version class) refl known
   where
-    known_by : (a b : Bool) → (a || b) ≡ true → b ≡ false → a ≡ true
-    known_by true b k n = refl
-    known_by false b k n = absurd cc
-
-    by : (b : Bool) → option_map_or (int_eq version) (built_in_version class) false ≡ b → as_version classes class version v ≡ Ok v
-    by true is = as_built_in classes class version v is
-    by false is =
-        let described = some_of (find_in classes class version) (known_by _ (option_map_or (int_eq version) (built_in_version class) false) known is) in
+    by : (o : Option ℤ) → built_in_version class ≡ o → option_map_or (int_eq version) o (is_some (find_in classes class version)) ≡ true → as_version classes class version v ≡ Ok v
+    by (Some built) is same = as_built_in classes class version v built is same
+    by None is found_there =
+        let described = some_of (find_in classes class version) found_there in
         let c = described.0 in
         let named = found_named classes class version c described.1 in
         let found : find_in classes c.name c.version ≡ Some c = (λ i. find_in classes (named.0 i) (named.1 i)) ∙ described.1 in

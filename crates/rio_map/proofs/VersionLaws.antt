@@ -1,11 +1,11 @@
 -- Objects of a class in a version that is described.
-use Rattle.std.proofs.Common.{◌≡◌, ◌&&◌, ℕ, ℤ, List, [], ◌∷◌, zero, suc, ◌<◌, ◌++◌, ◌==◌, drop, length, map, Bool, true, false, cond, Option, Some, Ok, if◌then◌else◌, refl, sym, ap, ◌∙◌, arith}
+use Rattle.std.proofs.Common.{◌≡◌, ◌&&◌, ℕ, ℤ, List, [], ◌∷◌, zero, suc, ◌<◌, ◌++◌, ◌==◌, drop, length, map, Bool, true, false, cond, Option, Some, None, Ok, Err, if◌then◌else◌, refl, sym, ap, ◌∙◌, arith}
 use Rattle.std.proofs.lemmas.{Bool.{and_parts}, Bool.Decides.{Decides-int_eq}, Slice.Eq.{bytes_eq-Decides}}
 use Rattle.std.specs.{Option.{option_map_or}, Ordering.{int_eq}, Str.{bytes_eq}}
 use Rattle.rio_num.specs.Reading.{◌>>=◌}
 use Rattle.rio_format.specs.{Classes.{find_in}, declared.class.Base.{Base}, declared.class.ClassDef.{ClassDef}, declared.value.Part.{Part}, declared.value.Value.{Value}}
-use Rattle.rio_model.specs.Mapping.{Asked, Mapped, PartMapping, after_bases, as_version, described_bases, described_members, in_description, mapping_of, object_mapped}
-use Rattle.rio_model.specs.Resolving.{built_in_version}
+use Rattle.rio_model.specs.Mapping.{Asked, Mapped, PartMapping, after_bases, as_version, described_bases, described_members, in_description, in_own_version, mapping_of, object_mapped}
+use Rattle.rio_model.specs.{Resolving.{built_in_version}, declared.map_fault.MapFault.TheVariants.{NoVersion}}
 use Rattle.rio_map.specs.Versions.{bases_as, behind, is_nameless, mapped_in, mapping_of_part, members_as}
 
 pub found_named : (classes : List ClassDef) (class : List ℕ) (version : ℤ) (c : ClassDef) → find_in classes class version ≡ Some c → (c.name ≡ class) × (c.version ≡ version)
@@ -29,15 +29,20 @@ module _ (classes : List ClassDef) (class : List ℕ) (version : ℤ) (v : Value
       ap (in_description classes class version v) found
       ∙ (λ i. (mapping_of classes (asks (sym named.0 i) (sym named.1 i)) v).mapped)
 
-  pub as_described : option_map_or (int_eq version) (built_in_version class) false ≡ false → find_in classes class version ≡ Some c → as_version classes class version v ≡ mapped_in classes c v
+  pub as_described : built_in_version class ≡ None → find_in classes class version ≡ Some c → as_version classes class version v ≡ mapped_in classes c v
   unfolding as_version
   as_described own found =
-      ap (λ (b : Bool). if b then Ok v else in_description classes class version v (find_in classes class version)) own ∙ in_found found
+      ap (λ (o : Option ℤ). option_map_or (in_own_version version v) o (in_description classes class version v (find_in classes class version))) own ∙ in_found found
 
-pub as_built_in : (classes : List ClassDef) (class : List ℕ) (version : ℤ) (v : Value) → option_map_or (int_eq version) (built_in_version class) false ≡ true → as_version classes class version v ≡ Ok v
+pub as_own : (classes : List ClassDef) (class : List ℕ) (version : ℤ) (v : Value) (own : ℤ) → built_in_version class ≡ Some own → as_version classes class version v ≡ in_own_version version v own
 unfolding as_version
-as_built_in classes class version v own =
-    ap (λ (b : Bool). if b then Ok v else in_description classes class version v (find_in classes class version)) own
+as_own classes class version v own known =
+    ap (λ (o : Option ℤ). option_map_or (in_own_version version v) o (in_description classes class version v (find_in classes class version))) known
+
+pub as_built_in : (classes : List ClassDef) (class : List ℕ) (version : ℤ) (v : Value) (own : ℤ) → built_in_version class ≡ Some own → int_eq version own ≡ true → as_version classes class version v ≡ Ok v
+as_built_in classes class version v own known same =
+    as_own classes class version v own known
+    ∙ ap (λ (b : Bool). let r : Mapped Value = if b then Ok v else Err NoVersion in r) same
 
 pub object_by_bases : (classes : List ClassDef) (old : Option ClassDef) (asked : ClassDef) (parts : List PartMapping) (front : List Part) → bases_as classes (described_bases old) asked parts ≡ Ok front
     → object_mapped classes old asked parts ≡ behind front (members_as classes (described_members old) asked (after_bases (λ p. p.name) (described_bases old) parts))

@@ -1,5 +1,5 @@
-//! Classes that have no zero: one that isn't known, has a part that isn't read, or is within itself, or a class within them is
-//! one. Each class within is looked at once, however deep it is.
+//! Classes that have no zero: one that isn't known, that has a member that isn't read, or that is within itself, and one that has
+//! such a class within it. The search goes into each class once, so it takes no more than the classes that are reached.
 ghost use Rattle.std.specs.Prelude.{◌≡◌, ◌⊎◌, ℕ, List, [], ◌∷◌, ◌++◌, Some, true, slice_get, IfOk, OnOk};
 ghost use Rattle.rio_map.specs.Lacking.{ClassNeeds, HasNoZero, IsWay, SlotNeeds};
 

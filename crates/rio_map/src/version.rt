@@ -1,11 +1,9 @@
 //! Values with the objects of a class in another version. The calls go as deep as the value, so those within one another
 //! keep little: what is made of a value is made in calls of their own.
-ghost use Rattle.std.specs.Prelude.{◌≡◌, drop, false, map, Ok};
-ghost use Rattle.std.specs.Option.{option_copied, option_map_or};
-ghost use Rattle.std.specs.Ordering.{int_eq};
+ghost use Rattle.std.specs.Prelude.{◌≡◌, drop, map, Ok};
+ghost use Rattle.std.specs.Option.{option_copied};
 ghost use Rattle.rio_num.specs.Answers.{GivesUnless};
-ghost use Rattle.rio_model.specs.Mapping.{after_bases, as_version, base_mapped, base_part_of, class_named, described_bases, described_members, each_mapped, items_mapped, kind_zero, member_mapped, member_part_of, object_as, object_mapped, or_changed, zero_of_class};
-ghost use Rattle.rio_model.specs.Resolving.{built_in_version};
+ghost use Rattle.rio_model.specs.Mapping.{after_bases, as_version, base_mapped, base_part_of, class_named, described_bases, described_members, each_mapped, in_own_version, items_mapped, kind_zero, member_mapped, member_part_of, object_as, object_mapped, or_changed, zero_of_class};
 ghost use Rattle.rio_model.specs.declared.map_fault.MapFault.TheVariants.{NoMemory as OutOfMemory};
 ghost use Rattle.rio_format.specs.{declared.value.Value.{List as Items, Object, Pointed, out-Value}, Bodies.{part}};
 ghost use Rattle.rio_map.specs.Converting.{flat_as};
@@ -521,21 +519,23 @@ fn converted(
     }
 }
 
-// Whether this is the one version of a built-in class.
-fn is_built_in_version(class: &[u8], version: i32) -> bool
-    ensures { result ≡ option_map_or (int_eq version) (built_in_version class.now) false }
+// The value, if the class, whose built-in version this is, is asked in that.
+fn in_own_version(alloc: Global, own: i32, version: i32, value: &Value) -> Result<Value, MapFault>
+    ensures { Maps result (in_own_version version value.now own) }
 {
-    match built_in_version(class) {
-        Some(own) => version == own,
-        None => false,
+    if version == own {
+        copied(alloc, value)
+    } else {
+        Err(MapFault::NoVersion)
     }
 }
 
 /// The value with each object of the class, at any depth, in the version. Such an object gets the bases and members of the
 /// asked version, in order: those of its own that have the names, converted, and zeros for the others. Any other object stays
-/// as it is, with what is within it mapped. A built-in class has one version, in which nothing changes.
+/// as it is, with what is within it mapped. A built-in class has one version, in which nothing changes, whatever else is
+/// described.
 ///
-/// `NoVersion` is returned where the class is neither declared nor built in in the version, and `KindChanged` for the first
+/// `NoVersion` is returned where the class isn't known in the version (`is_known_version` of `rio_model`), and `KindChanged` for the first
 /// base or member that can't be had. It goes as deep as the value.
 #[tactic(auto, unfolding(rio_model::specs::Mapping::as_version))]
 pub fn as_version(
@@ -548,11 +548,11 @@ pub fn as_version(
     ensures { GivesUnless OutOfMemory (λ v. v) result
         (as_version classes.now class.now version value.now) }
 {
-    if is_built_in_version(class, version) {
-        return copied(alloc, value);
-    }
-    match classes.find(class, version) {
-        Some(asked) => mapped(&mut Memory::new(alloc), classes, asked, value),
-        None => Err(MapFault::NoVersion),
+    match built_in_version(class) {
+        Some(own) => in_own_version(alloc, own, version, value),
+        None => match classes.find(class, version) {
+            Some(asked) => mapped(&mut Memory::new(alloc), classes, asked, value),
+            None => Err(MapFault::NoVersion),
+        },
     }
 }

@@ -12,7 +12,7 @@ use rio_format::{
     Classes, Fields, Kind, Parts, Prim, Slot, SlotKind, Value, Values, fields_of, is_headed,
     part_with, slot_of,
 };
-use rio_model::{built_in_version, newest_known};
+use rio_model::built_in_version;
 use rio_num::{Name, NoMemory};
 use std::alloc::Global;
 
@@ -126,14 +126,16 @@ fn object_zero(
     }
 }
 
-// The version of a zero object of the class: an object without a header has the built-in one.
+/// The version of a zero object of the class: the built-in one, or else the newest.
 pub(crate) fn zero_version(classes: &Classes, class: &[u8]) -> Option<i32>
     ensures { result ≡ zero_version classes.now class.now }
 {
-    if is_headed(class) {
-        newest_known(classes, class)
-    } else {
-        built_in_version(class)
+    if let Some(own) = built_in_version(class) {
+        return Some(own);
+    }
+    match classes.newest(class) {
+        Some(newest) => Some(newest.version),
+        None => None,
     }
 }
 

@@ -1,15 +1,15 @@
 -- Objects as their class has them in another version. Each object of the class, at any depth, gets the bases and members of
 -- the asked version: those of its own that have the names, converted, and zeros for the others.
 use Rattle.std.specs.Prelude.{ℕ, zero, suc, ◌+◌, ◌*◌, ◌^◌, ℤ, pos, List, [], ◌∷◌, ◌++◌, length, map, replicate, Bool, true, false, ◌==◌, ◌&&◌, not, Option, Some, None, option_and_then, Result, Ok, Err, find, if◌then◌else◌}
-use Rattle.std.specs.{Int.{int_rem_euclid, int_wrap}, List.{list_any}, Option.{option_map, option_map_or}, Ordering.{int_eq}, Str.{bytes_eq}}
+use Rattle.std.specs.{Int.{int_rem_euclid, int_wrap}, List.{list_any}, Option.{option_map, option_map_or, option_or}, Ordering.{int_eq}, Str.{bytes_eq}}
 use Rattle.rio_num.specs.Reading.{◌>>=◌}
-use Rattle.rio_format.specs.{Classes.{find_in}, declared.class.Base.{Base}, declared.class.ClassDef.{ClassDef}, declared.class.Member.{Member}}
+use Rattle.rio_format.specs.{Classes.{find_in, newest_in}, declared.class.Base.{Base}, declared.class.ClassDef.{ClassDef}, declared.class.Member.{Member}}
 use Rattle.rio_format.specs.declared.kind.Kind.{Kind, TheVariants.{Plain, Counter, Fixed, Counted, Text, Inline, Pointer, Other}}
 use Rattle.rio_format.specs.{declared.kind.Primitive.{Primitive, TheVariants.{I8, I16, I32, I64, Bool as Truth, F32, F64}}, declared.value.Part.{Part}}
 use Rattle.rio_format.specs.declared.value.Value.{Value, out-Value, TheOpen.{Value-F, Int, Bits32, Bits64, Bool as Boolean, Text as Chars, List as Items, Object, Pointed, Null, Back, Opaque}, TheFolds.{fold-Value}}
 use Rattle.rio_format.specs.declared.value.Value as whole
-use Rattle.rio_format.specs.{Bodies.{form_of, part}, Prims.{width_of}, Slots.{Slot, kinded, based, flags, any_pointer, link, many, Field, fields_of, is_headed}, Written.{width_in_bits}}
-use Rattle.rio_model.specs.Resolving.{built_in_version, newest_known}
+use Rattle.rio_format.specs.{Bodies.{part}, Prims.{width_of}, Slots.{Slot, kinded, based, flags, any_pointer, link, many, Field, fields_of}, Written.{width_in_bits}}
+use Rattle.rio_model.specs.Resolving.{built_in_version}
 use Rattle.rio_model.specs.declared.map_fault.MapFault.{MapFault, TheVariants.{KindChanged, NoVersion}}
 
 -- what is had, or the first base or member that can't be
@@ -145,9 +145,9 @@ abbrev pub object_zero : List ClassDef → List ℕ → (List ℕ → Option Val
 object_zero classes class object version =
     option_map (whole.Object class version) (option_and_then (parts_zero object) (fields_of classes class version))
 
--- the version of a zero object: the newest one, and of a class whose objects have no header the built-in one
+-- the version of a zero object: the one version of a built-in class, and of any other the newest in which it is declared
 abbrev pub zero_version : List ClassDef → List ℕ → Option ℤ
-zero_version classes class = if is_headed (form_of class) then newest_known classes class else built_in_version class
+zero_version classes class = option_or (built_in_version class) (option_map (λ c. c.version) (newest_in classes class))
 
 -- the zero object of a class, of at most so many objects within one another
 unfoldable pub zero_within : ℕ → List ClassDef → List ℕ → Option Value
@@ -297,8 +297,11 @@ abbrev pub in_description : List ClassDef → List ℕ → ℤ → Value → Opt
 in_description classes class version v None = Err NoVersion
 in_description classes class version v (Some c) = (mapping_of classes (record { class = class; version = version; described = c }) v).mapped
 
--- a value with each object of the class in the version; a built-in class has one version, in which nothing changes
+-- a value in which a built-in class is asked in the version: the class has its own alone, in which nothing changes
+abbrev pub in_own_version : ℤ → Value → ℤ → Mapped Value
+in_own_version version v own = if int_eq version own then Ok v else Err NoVersion
+
+-- a value with each object of the class in the version
 unfoldable pub as_version : List ClassDef → List ℕ → ℤ → Value → Mapped Value
 as_version classes class version v =
-    if option_map_or (int_eq version) (built_in_version class) false then Ok v
-    else in_description classes class version v (find_in classes class version)
+    option_map_or (in_own_version version v) (built_in_version class) (in_description classes class version v (find_in classes class version))

@@ -1,5 +1,5 @@
 -- Values with the versions that they leave open: an object of version 0 is of the version that its class has there.
-use Rattle.std.specs.Prelude.{◌≡◌, ℕ, ℤ, pos, List, [], ◌∷◌, length, map, Bool, true, false, ◌==◌, ◌&&◌, ◌||◌, not, IsTrue, Option, Some, None, is_some, option_and_then, find, if◌then◌else◌}
+use Rattle.std.specs.Prelude.{◌≡◌, ℕ, ℤ, pos, List, [], ◌∷◌, length, map, Bool, true, false, ◌==◌, ◌&&◌, not, IsTrue, Option, Some, None, is_some, option_and_then, find, if◌then◌else◌}
 use Rattle.std.specs.{List.{list_all}, Option.{option_map, option_map_or, option_or}, Ordering.{int_eq}, Str.{bytes_eq}}
 use Rattle.rio_format.specs.{Classes.{find_in, newest_in}, declared.class.Base.{Base}, declared.class.ClassDef.{ClassDef}, declared.value.Part.{Part}}
 use Rattle.rio_format.specs.declared.value.Value.{Value, TheOpen.{Value-F, Int, Bits32, Bits64, Bool as Truth, Text, List as Items, Object, Pointed, Null, Back, Opaque}, TheFolds.{fold-Value}}
@@ -25,10 +25,10 @@ abbrev pub meant_version : List ClassDef → List Base → List ℕ → ℤ → 
 meant_version classes bases class version =
     if int_eq version (pos 0) then option_or (base_version bases class) (newest_known classes class) else Some version
 
--- the class is declared in the version, or built in in it
+-- the class is built in in the version, or it isn't built in and is declared in it
 abbrev pub is_known_version : List ClassDef → List ℕ → ℤ → Bool
 is_known_version classes class version =
-    is_some (find_in classes class version) || option_map_or (int_eq version) (built_in_version class) false
+    option_map_or (int_eq version) (built_in_version class) (is_some (find_in classes class version))
 
 -- the version that is meant, if the class is known in it
 abbrev pub resolved_version : List ClassDef → List Base → List ℕ → ℤ → Option ℤ

@@ -28,7 +28,7 @@ pub use list_laws::{
     written_bytes_are_read, written_list_fits, written_list_is_read, written_list_is_spelled,
 };
 pub use map_fault::MapFault;
-pub use newest::{built_in_version, newest_known};
+pub use newest::{built_in_version, is_known_version, newest_known};
 pub use read_laws::{
     class_reading_goes_on, printed_classes_are_read, printed_values_are_read,
     read_classes_are_stated, value_reading_goes_on,

@@ -1,6 +1,6 @@
-//! The version in which a class is meant where none is named.
+//! The versions in which a class is known.
 ghost use Rattle.std.specs.Prelude.{◌≡◌};
-ghost use Rattle.rio_model.specs.Resolving.{built_in_version, newest_known};
+ghost use Rattle.rio_model.specs.Resolving.{built_in_version, is_known_version, newest_known};
 
 use rio_format::{Classes, headed_version, is_headed};
 
@@ -22,5 +22,16 @@ pub fn newest_known(classes: &Classes, class: &[u8]) -> Option<i32>
     match classes.newest(class) {
         Some(newest) => Some(newest.version),
         None => built_in_version(class),
+    }
+}
+
+/// Whether a class is known in the version. A built-in class is in its one version, whatever a list describes, and any other
+/// in those in which it is declared.
+pub fn is_known_version(classes: &Classes, class: &[u8], version: i32) -> bool
+    ensures { result ≡ is_known_version classes.now class.now version }
+{
+    match built_in_version(class) {
+        Some(own) => version == own,
+        None => classes.find(class, version).is_some(),
     }
 }

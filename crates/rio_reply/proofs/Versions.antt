@@ -1,12 +1,12 @@
 -- Why an object can't be had in a version of its class: a kind has changed, or, where the class isn't known in the version, for that.
-use Rattle.std.proofs.Common.{◌≡◌, ◌||◌, ℕ, ℤ, List, [], ◌∷◌, ◌++◌, map, length, Bool, true, false, cond, Option, Some, None, Ok, Err, refl, sym, ap, subst, ◌∙◌}
+use Rattle.std.proofs.Common.{◌≡◌, ℕ, ℤ, List, [], ◌∷◌, ◌++◌, map, length, Bool, true, false, cond, Option, Some, None, Ok, Err, refl, sym, ap, subst, ◌∙◌}
 use Rattle.std.specs.{Prelude.{◌==◌, ◌&&◌, find, if◌then◌else◌, is_some, option_and_then}, List.{list_any}, Option.{option_map, option_map_or}, Ordering.{int_eq}, Str.{bytes_eq}}
 use Rattle.rio_num.specs.Reading.{◌>>=◌}
 use Rattle.rio_format.specs.{Classes.{find_in}, declared.class.Base.{Base}, declared.class.ClassDef.{ClassDef}, declared.class.Member.{Member}}
 use Rattle.rio_format.specs.{declared.kind.Kind.{Kind, TheVariants.{Plain, Counter, Fixed, Counted, Text, Inline, Pointer, Other}}, declared.kind.Primitive.TheVariants.{I32}, declared.value.Part.{Part, Part-F}}
 use Rattle.rio_format.specs.{declared.value.Value.{Value, Int, Bits32, Bits64, Bool as Truth, Text as Chars, List as Items, Object, Pointed, Null, Back, Opaque, out-Value, TheFolds.{fold-Part, fold_out-Part}}, Bodies.{part}}
 use Rattle.rio_format.proofs.ValueCases.{Each, by_cases, fold_Int, fold_Bits32, fold_Bits64, fold_Bool, fold_Text, fold_List, fold_Object, fold_Pointed, fold_Null, fold_Back, fold_Opaque}
-use Rattle.rio_model.specs.Mapping.{Asked, Mapped, Mapping, PartMapping, after_bases, as_version, base_mapped, base_part_of, class_named, convert, described_bases, described_members, each_mapped, flat_mapped, in_description, is_list_of, is_object_value, is_pointer_value, is_text_value, items_mapped, kind_zero, list_as, mapping_of, mapping_step, member_mapped, member_part_of, object_as, object_mapped, or_changed, part_mapping, single_as, zero_of_class}
+use Rattle.rio_model.specs.Mapping.{Asked, Mapped, Mapping, PartMapping, after_bases, as_version, base_mapped, base_part_of, class_named, convert, described_bases, described_members, each_mapped, flat_mapped, in_description, in_own_version, is_list_of, is_object_value, is_pointer_value, is_text_value, items_mapped, kind_zero, list_as, mapping_of, mapping_step, member_mapped, member_part_of, object_as, object_mapped, or_changed, part_mapping, single_as, zero_of_class}
 use Rattle.rio_model.specs.{Resolving.{built_in_version, is_known_version}, declared.map_fault.MapFault.{MapFault, TheVariants.{KindChanged, NoVersion, NoMemory}}}
 
 -- ---- what is had, or a changed kind
@@ -233,10 +233,13 @@ known_had known (Err NoMemory) is had = absurd had
 
 pub had_by_version : (classes : List ClassDef) (class : List ℕ) (version : ℤ) (v : Value) → IsHadByVersion (is_known_version classes class version) (as_version classes class version v)
 unfolding as_version
-had_by_version classes class version v = by (option_map_or (int_eq version) (built_in_version class) false) (find_in classes class version)
+had_by_version classes class version v = by (built_in_version class) (find_in classes class version)
   where
-    by : (built : Bool) (found : Option ClassDef) → IsHadByVersion (is_some found || built) (if built then Ok v else in_description classes class version v found)
-    by true None = refl
-    by true (Some c) = refl
-    by false None = refl
-    by false (Some c) = known_had true (in_description classes class version v (Some c)) refl (value_is_had classes (record { class = class; version = version; described = c }) v)
+    own_had : (b : Bool) → let r : Mapped Value = if b then Ok v else Err NoVersion in IsHadByVersion b r
+    own_had true = refl
+    own_had false = refl
+
+    by : (built : Option ℤ) (found : Option ClassDef) → IsHadByVersion (option_map_or (int_eq version) built (is_some found)) (option_map_or (in_own_version version v) built (in_description classes class version v found))
+    by (Some own) found = own_had (int_eq version own)
+    by None None = refl
+    by None (Some c) = known_had true (in_description classes class version v (Some c)) refl (value_is_had classes (record { class = class; version = version; described = c }) v)

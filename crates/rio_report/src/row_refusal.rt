@@ -23,7 +23,7 @@ use rio_format::{Base, ClassDef, Classes, Values};
 use rio_host::Host;
 use rio_machine::Refusal;
 use rio_map::MapFault;
-use rio_model::built_in_version;
+use rio_model::is_known_version;
 use rio_num::NoMemory;
 use rio_tree::BranchRefusal;
 use std::alloc::Global;
@@ -42,12 +42,11 @@ fn is_declared(classes: &Classes, name: &[u8]) -> bool
     classes.iter().any(|class| is_named(class, name))
 }
 
-// Whether the class is declared or built in in the version.
-fn is_known_version(classes: &Classes, asked: &Base) -> bool
+// Whether the class that is asked is known in its version.
+fn is_asked_known(classes: &Classes, asked: &Base) -> bool
     ensures { result ≡ is_known_version classes.now asked.now.name asked.now.version }
 {
-    let name = asked.name.as_slice();
-    classes.find(name, asked.version).is_some() || built_in_version(name) == Some(asked.version)
+    is_known_version(classes, asked.name.as_slice(), asked.version)
 }
 
 // Why these values can't be had as a row in the form.
@@ -176,7 +175,7 @@ fn refusal_in_version<H: Host>(
         return Ok(Some(Refusal::NoSuchClass));
     }
     let refusal = first_refused_row(alloc, host, tree, form, entries, refusals)?;
-    let known = is_known_version(tree.classes, asked);
+    let known = is_asked_known(tree.classes, asked);
     Ok(or_no_version(refusal, known))
 }
 

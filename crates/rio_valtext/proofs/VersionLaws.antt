@@ -1,5 +1,5 @@
 -- What is resolved leaves no version open.
-use Rattle.std.proofs.Common.{◌≡◌, ◌&&◌, ◌||◌, ℕ, ℤ, pos, List, [], ◌∷◌, Bool, true, false, not, cond, map, length, codes, ◌==◌, Some, None, is_some, if◌then◌else◌, refl, sym, ap, subst, ◌∙◌}
+use Rattle.std.proofs.Common.{◌≡◌, ◌&&◌, ℕ, ℤ, pos, List, [], ◌∷◌, Bool, true, false, not, cond, map, length, codes, ◌==◌, Option, Some, None, is_some, if◌then◌else◌, refl, sym, ap, subst, ◌∙◌}
 use Rattle.std.proofs.{lemmas.Bool.{and_parts, Decides.{Decides-int_eq}}, lemmas.Option.{option_and_then_some}}
 use Rattle.std.specs.{List.{list_all}, Option.{option_map, option_map_or, option_or}, Ordering.{int_eq}, Str.{bytes_eq}}
 use Rattle.rio_format.specs.{Classes.{find_in}, declared.class.Base.{Base}, declared.class.ClassDef.{ClassDef}, declared.value.Part.{Part, Part-F}}
@@ -44,13 +44,13 @@ built_closed : (class : List ℕ) (version : ℤ) → option_map_or (int_eq vers
 built_closed class version e =
     built_by version (bytes_eq class (codes "TNamed")) (bytes_eq class (codes "TObjString")) (bytes_eq class (codes "TList")) (bytes_eq class (codes "TObjArray")) (is_headed (form_of class)) e
 
-one_of : (P : Type 0) (a b : Bool) → (a ≡ true → P) → (b ≡ true → P) → (a || b) ≡ true → P
-one_of P true b f g e = f refl
-one_of P false b f g e = g e
+known_by : (P : Type 0) (version : ℤ) (own : Option ℤ) (declared : Bool) → (option_map_or (int_eq version) own false ≡ true → P) → (declared ≡ true → P) → option_map_or (int_eq version) own declared ≡ true → P
+known_by P version (Some own) declared built found e = built e
+known_by P version None declared built found e = found e
 
 known_closed : (classes : List ClassDef) (class : List ℕ) (version : ℤ) → list_all (λ c. is_closed c.version) classes ≡ true → is_known_version classes class version ≡ true → is_closed version ≡ true
 known_closed classes class version closed e =
-    one_of (is_closed version ≡ true) (is_some (find_in classes class version)) (option_map_or (int_eq version) (built_in_version class) false) (found_closed classes class version closed) (built_closed class version) e
+    known_by (is_closed version ≡ true) version (built_in_version class) (is_some (find_in classes class version)) (built_closed class version) (found_closed classes class version closed) e
 
 -- ---- lists
 

@@ -3,13 +3,17 @@
 ghost use Rattle.std.specs.Prelude.{◌≡◌, ◌==◌, [], ◌∷◌, length, map, option_and_then, IfOk, IfErr, Some, None, if◌then◌else◌};
 ghost use Rattle.std.specs.Option.{option_map};
 ghost use Rattle.rio_format.specs.{declared.value.Value.{List as Items, Object, Pointed}, Bodies.{part, t_object_base}, Slots.{body_bases, headed_body}};
-ghost use Rattle.rio_model.specs.Resolving.{ResolvedHasVersions, ResolvedStays, base_version, each_resolved, is_known_version, meant_version, newest_known, object_resolved, resolved, resolved_row, resolved_version, resolving_of, resolving_of_part};
+ghost use Rattle.rio_model.specs.Resolving.{ResolvedHasVersions, ResolvedStays, base_version, each_resolved, meant_version, newest_known, object_resolved, resolved, resolved_row, resolved_version, resolving_of, resolving_of_part};
 ghost use Rattle.rio_valtext.specs.Resolves.{Resolves};
 
 use rio_format::{
     Base, Body, BodyKind, Classes, Part, Parts, Value, Values, copy, declared_body, is_headed,
 };
+<<<<<<< HEAD
 use rio_model::{built_in_version, newest_known};
+=======
+use rio_model::{is_known_version, newest_known};
+>>>>>>> 593c26816ed0d8ab7d0accba67faf56f34484c11
 use rio_num::{Boxed, Name, NoMemory};
 use std::alloc::Global;
 use thiserror::Error;
@@ -105,13 +109,6 @@ fn meant_version(
         Some(version) => Some(version),
         None => newest_known(classes, class),
     }
-}
-
-// Whether the class is declared or built in in the version.
-fn is_known_version(classes: &Classes, class: &[u8], version: i32) -> bool
-    ensures { result ≡ is_known_version classes.now class.now version }
-{
-    classes.find(class, version).is_some() || built_in_version(class) == Some(version)
 }
 
 // The version that an object means, if its class is known in it.

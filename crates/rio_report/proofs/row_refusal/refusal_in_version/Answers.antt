@@ -20,6 +20,6 @@ returns-clause-refusal g c file told =
     let rows = rows_of file classes c.args.tree.now.branches.now c.args.refusals.now c.args.entries in
     let declared : is_declared classes asked.name ≡ true = ap (is_declared classes) (sym c.as_slice.ensures) ∙ sym c.is_declared.ensures ∙ c.if-not-is_declared.false in
     c.or_no_version.ensures
-    ∙ ap (λ (b : Bool). option_or c.in_ok-refusal.refusal (refused_if (not b) NoVersion)) c.is_known_version-known.ensures
+    ∙ ap (λ (b : Bool). option_or c.in_ok-refusal.refusal (refused_if (not b) NoVersion)) c.is_asked_known-known.ensures
     ∙ ap (λ (o : Option Refusal). option_or o (refused_if (not (is_known_version classes asked.name asked.version)) NoVersion)) (c.in_ok-refusal.ensures.refusal file told)
     ∙ refused_behind classes c.args.form.now.class asked c.requires.asked rows declared
