@@ -4,7 +4,7 @@ ghost use Rattle.rio_host.specs.MemHost.{view_of};
 ghost use Rattle.rio_step.specs.Statable.{IsStatable};
 ghost use Rattle.rio_session.specs.Session.{IsReady};
 
-use rio_host::MemHost;
+use rio_host::{Host, MemHost};
 use rio_machine::{Command, Outcome, Refusal};
 use rio_num::{Bytes, Name, NoMemory, Numbers};
 use rio_session::{OpenFault, Session, SessionFault};
@@ -26,6 +26,13 @@ fn act(
     Ok(outcome)
 }
 
+fn close<H: Host>(session: Session, host: &mut H) -> Result<(), SessionFault>
+    requires fresh { session.failed ≡ false }
+    requires ready { IsReady (H.view host.old) session }
+{
+    session.close(host)
+}
+
 // Does two commands so and closes the file.
 fn act_and_close(
     mut session: Session,
@@ -40,13 +47,13 @@ fn act_and_close(
 {
     let one = act(&mut session, host, first)?;
     let other = act(&mut session, host, second)?;
-    session.close(host)?;
+    close(session, host)?;
     Ok((one, other))
 }
 
-fn open(alloc: Global, host: &mut MemHost) -> Result<Session, SessionFault>
+fn open<H: Host>(alloc: Global, host: &mut H) -> Result<Session, SessionFault>
     ensures fresh { IfOk result (λ session. session.failed ≡ false) }
-    ensures ready { IfOk result (IsReady (view_of host.new)) }
+    ensures ready { IfOk result (IsReady (H.view host.new)) }
 {
     match Session::open(alloc, host, b"a.root", 1) {
         Ok(session) => Ok(session),
@@ -67,11 +74,24 @@ fn get(alloc: Global) -> Result<Command, NoMemory>
     })
 }
 
-// Makes a file, does a bad line and gets what isn't there, and closes the file.
+// Makes a file, does two commands, and closes the file.
+fn run(
+    alloc: Global,
+    host: &mut MemHost,
+    first: &Command,
+    second: &Command,
+) -> Result<(Outcome, Outcome), SessionFault>
+    requires first { IsStatable first.now }
+    requires second { IsStatable second.now }
+{
+    let session = open(alloc, host)?;
+    act_and_close(session, host, first, second)
+}
+
+// Does a bad line, and gets what isn't there.
 fn run_refused(alloc: Global, host: &mut MemHost) -> Result<(Outcome, Outcome), SessionFault> {
     let second = get(alloc)?;
-    let session = open(alloc, host)?;
-    act_and_close(session, host, &Command::Bad { line: 3, place: 0 }, &second)
+    run(alloc, host, &Command::Bad { line: 3, place: 0 }, &second)
 }
 
 // Whether nothing is printed, and the file is closed without objects.
