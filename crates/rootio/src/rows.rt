@@ -1,21 +1,4 @@
-//! Worked rows: what the program answers for files whose bytes and listings come from the format's rules.
+//! Worked examples that no file and no command can show; the others are transcripts, in `tests/` at the top.
 mod changes;
-mod classes;
-mod declared;
-mod deletes;
-mod failing;
 mod faults;
-mod forest;
-mod generated;
-mod hand;
-mod header;
-mod images;
-mod import;
-mod parts;
-mod pen;
-mod recover;
-mod run;
 mod runs;
-mod stops;
-mod tree_recovery;
-mod undone;
