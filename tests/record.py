@@ -1,11 +1,13 @@
 #!/usr/bin/env python3
 """Makes files whose one record has bytes made by hand, by the published layouts alone, or prints the data of records.
 
-record.py object FILE CLASS HEX <CLASSES   a closed file with a key `o;1` of this class, whose data are these bytes. Their first
-                                           one has the place 100 in the record. CLASSES describes a class on each line:
+record.py object FILE CLASS[@PLACE] HEX <CLASSES
+                                           a closed file with a key `o;1` of this class, whose data are these bytes. Their first
+                                           one has this place in the record, or 100. CLASSES describes a class on each line:
                                            NAME VERSION[/CHECKSUM] [:BASE=VERSION].. [MEMBER=KIND]..
 record.py state FILE <CLASSES              a closed file without keys that describes the classes of trees, and these
-record.py list FILE HEX                    a closed file without keys, whose class list has these data, the first byte at 64
+record.py list FILE HEX [CLASS HEX]        a closed file whose class list has these data, the first byte at 64; without keys, or with
+                                           an object as above
 record.py data FILE NAME                   prints the data of each record of the name, in hexadecimal digits
 
 A KIND is as in a declaration, or `counter`, or `other` and a code, or `class:` and a name; after a `/` it may have a title. A
@@ -81,6 +83,11 @@ class HandMade(File):
         return head, found
 
 
+    def object(self, kind, data):
+        kind, _, place = kind.partition('@')
+        self.heads.append(self.record(kind, 'o', '', data, int(place or '100'))[0])
+
+
 class OneList(HandMade):
     def __init__(self, path, data):
         super().__init__(path, 'list.root')
@@ -88,12 +95,6 @@ class OneList(HandMade):
 
     def class_list(self, classes):
         return self.record('TList', 'StreamerInfo', 'Doubly linked list', self.data, 64)[1]
-
-
-def object_file(path, kind, data, lines):
-    file = HandMade(path, 'object.root')
-    file.heads.append(file.record(kind, 'o', '', data, 100)[0])
-    file.close([described(it) for it in lines if it.strip()])
 
 
 def records(path):
@@ -111,11 +112,16 @@ def records(path):
 
 def main(words):
     if len(words) == 4 and words[0] == 'object':
-        object_file(words[1], words[2], bytes.fromhex(words[3]), sys.stdin)
+        file = HandMade(words[1], 'object.root')
+        file.object(words[2], bytes.fromhex(words[3]))
+        file.close([described(it) for it in sys.stdin if it.strip()])
     elif len(words) == 2 and words[0] == 'state':
         File(words[1], 'state.root').close(tree_classes() + [described(it) for it in sys.stdin if it.strip()])
-    elif len(words) == 3 and words[0] == 'list':
-        OneList(words[1], bytes.fromhex(words[2])).close([])
+    elif len(words) in (3, 5) and words[0] == 'list':
+        file = OneList(words[1], bytes.fromhex(words[2]))
+        if len(words) == 5:
+            file.object(words[3], bytes.fromhex(words[4]))
+        file.close([])
     elif len(words) == 3 and words[0] == 'data':
         for name, data in records(words[1]):
             if name == words[2].encode():

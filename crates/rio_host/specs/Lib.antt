@@ -1,4 +1,5 @@
 pub mod Failing
+pub mod FileHost
 pub mod Flight
 pub mod Host
 pub mod Image

@@ -1,8 +1,8 @@
 //! A file of the system that is opened at its first use.
-ghost use Rattle.std.specs.Prelude.{◌≡◌, IsTrue, IsErr, OnErr};
+ghost use Rattle.std.specs.Prelude.{◌≡◌, ◌↔◌, IsTrue, IsErr, OnErr, Err, MatchResult, IsUtf8};
 
 use rio_num::Name;
-use std::fs::{FileType, OpenFile, OpenOptions};
+use std::fs::{File, FileType, OpenOptions, TryLockError};
 use std::io::{ErrorKind, Read, Seek, SeekFrom, Write};
 use std::os::unix::fs::FileTypeExt;
 use std::path::Path;
@@ -11,14 +11,19 @@ use std::{fs, io};
 
 /// A file that is opened at its first use.
 ///
+/// One that it `writes` is locked as soon as it is open, before anything of it is read, until this
+/// open ends. Where another open has the lock, the call fails, and the next call tries again. Where
+/// the system has no locks, it goes without.
+///
 /// After a sync that failed every call fails: what the system had still to bring to the disk may be
 /// lost, and a later sync needn't tell.
 #[derive(Drop)]
-pub struct LateFile<'a, R: Files> {
+pub struct LateFile<'a, R: Files<File = File>> {
     rt: &'a R,
     path: Name,
     writes: bool,
-    file: Option<R::File>,
+    file: Option<File>,
+    is_in_use: bool,
     has_synced_folder: bool,
     has_failed_sync: bool,
 }
@@ -34,7 +39,9 @@ fn folder_of(path: &str) -> &str {
     }
 }
 
-fn as_text(path: &Name) -> io::Result<&str> {
+fn as_text(path: &Name) -> io::Result<&str>
+    ensures { MatchResult result (λ text. text.now ≡ path.now) (λ e. ¬ IsUtf8 path.now) }
+{
     match str::from_utf8(path.as_slice()) {
         Ok(text) => Ok(text),
         Err(_) => Err(io::Error::from(ErrorKind::InvalidInput)),
@@ -47,7 +54,7 @@ fn has_places(kind: FileType) -> bool {
 }
 
 // Opens what is there. A file that is written is made where nothing is there.
-fn open_file<R: Files>(rt: &R, path: &str, writes: bool) -> io::Result<R::File> {
+fn open_file<R: Files<File = File>>(rt: &R, path: &str, writes: bool) -> io::Result<File> {
     let mut options = OpenOptions::new();
     options.read(true).write(writes);
     match fs::metadata(rt, path) {
@@ -66,7 +73,14 @@ fn open_file<R: Files>(rt: &R, path: &str, writes: bool) -> io::Result<R::File> 
     options.open(rt, path)
 }
 
-impl<'a, R: Files> LateFile<'a, R> {
+// Whether another open has the lock that was asked for.
+fn is_held(answer: &Result<(), TryLockError>) -> bool
+    ensures { IsTrue result ↔ answer.now ≡ Err TryLockError.WouldBlock }
+{
+    matches!(answer, Err(TryLockError::WouldBlock))
+}
+
+impl<'a, R: Files<File = File>> LateFile<'a, R> {
     /// The file at this path, not opened yet. Where it `writes`, it is made if it isn't there.
     pub fn new(rt: &'a R, path: Name, writes: bool) -> LateFile<'a, R> {
         LateFile {
@@ -74,20 +88,43 @@ impl<'a, R: Files> LateFile<'a, R> {
             path,
             writes,
             file: None,
+            is_in_use: false,
             has_synced_folder: false,
             has_failed_sync: false,
         }
     }
 
+    /// Whether the last call on the file failed because another open has the lock.
+    pub fn is_in_use(&self) -> bool
+        ensures { result ≡ self.now.is_in_use }
+    {
+        self.is_in_use
+    }
+
+    // Opens the file, and takes the lock on one that is written.
+    fn take(&mut self) -> io::Result<File>
+        ensures same { self.new.has_failed_sync ≡ self.old.has_failed_sync }
+        ensures in_use { IsTrue self.new.is_in_use → IsErr result }
+    {
+        let file = open_file(self.rt, as_text(&self.path)?, self.writes)?;
+        self.is_in_use = self.writes && is_held(&file.try_lock());
+        if self.is_in_use {
+            return Err(io::Error::from(ErrorKind::WouldBlock));
+        }
+        Ok(file)
+    }
+
     fn open(&mut self) -> io::Result<()>
         ensures lost { IsTrue self.old.has_failed_sync → IsErr result }
         ensures same { self.new.has_failed_sync ≡ self.old.has_failed_sync }
+        ensures in_use { IsTrue self.new.is_in_use → IsErr result }
     {
+        self.is_in_use = false;
         if self.has_failed_sync {
             return Err(io::Error::from(ErrorKind::Other));
         }
         if self.file.is_none() {
-            self.file = Some(open_file(self.rt, as_text(&self.path)?, self.writes)?);
+            self.file = Some(self.take()?);
         }
         Ok(())
     }
@@ -96,6 +133,7 @@ impl<'a, R: Files> LateFile<'a, R> {
     pub fn length(&mut self) -> io::Result<u64>
         ensures lost { IsTrue self.old.has_failed_sync → IsErr result }
         ensures same { self.new.has_failed_sync ≡ self.old.has_failed_sync }
+        ensures in_use { IsTrue self.new.is_in_use → IsErr result }
     {
         self.open()?;
         match &mut self.file {
@@ -108,6 +146,7 @@ impl<'a, R: Files> LateFile<'a, R> {
     pub fn read(&mut self, place: u64, into: &mut [u8]) -> io::Result<()>
         ensures lost { IsTrue self.old.has_failed_sync → IsErr result }
         ensures same { self.new.has_failed_sync ≡ self.old.has_failed_sync }
+        ensures in_use { IsTrue self.new.is_in_use → IsErr result }
     {
         self.open()?;
         match &mut self.file {
@@ -123,6 +162,7 @@ impl<'a, R: Files> LateFile<'a, R> {
     pub fn write(&mut self, place: u64, bytes: &[u8]) -> io::Result<()>
         ensures lost { IsTrue self.old.has_failed_sync → IsErr result }
         ensures same { self.new.has_failed_sync ≡ self.old.has_failed_sync }
+        ensures in_use { IsTrue self.new.is_in_use → IsErr result }
     {
         self.open()?;
         match &mut self.file {
@@ -139,6 +179,7 @@ impl<'a, R: Files> LateFile<'a, R> {
     pub fn sync(&mut self) -> io::Result<()>
         ensures lost { IsTrue self.old.has_failed_sync → IsErr result }
         ensures failed { OnErr result (IsTrue self.new.has_failed_sync) }
+        ensures in_use { IsTrue self.new.is_in_use → IsErr result }
     {
         let answer = self.bring_to_disk();
         if answer.is_err() {
@@ -149,6 +190,7 @@ impl<'a, R: Files> LateFile<'a, R> {
 
     fn bring_to_disk(&mut self) -> io::Result<()>
         ensures lost { IsTrue self.old.has_failed_sync → IsErr result }
+        ensures in_use { IsTrue self.new.is_in_use → IsErr result }
     {
         self.open()?;
         match &self.file {

@@ -1,5 +1,5 @@
 -- The ways in which a run ends: exit status and text.
-use Rattle.std.specs.{Prelude.{ℕ, List, [], ◌++◌, codes, Result, Ok, Err}, Fmt.{decimal}}
+use Rattle.std.specs.{Prelude.{ℕ, Bool, true, false, List, [], ◌++◌, codes, Result, Ok, Err}, Fmt.{decimal}}
 use Rattle.rio_head.specs.{FaultName.{fault_name}, ReasonName.{name_of_reason}}
 use Rattle.rio_num.specs.declared.no_memory.NoMemory.{NoMemory as NoMemoryFault}
 use Rattle.rio_close.specs.declared.fault.ReportFault.{ReportFault, TheVariants.{BadFile as FileBad, NoMemory as OutOfMemory, HostFault, SayFault as NotSaid}}
@@ -31,6 +31,11 @@ status_text SayFault = codes "rootio: output fault"
 abbrev pub told_line : Status → List ℕ
 told_line Done = []
 told_line status = status_text status ++ codes "\n"
+
+-- what is told on standard error, in a line more, of a file in use
+abbrev pub in_use_line : Bool → List ℕ → List ℕ
+in_use_line true file = codes "rootio: " ++ file ++ codes " is in use\n"
+in_use_line false file = []
 
 -- a run that found no memory before it began
 abbrev pub status_or_no_memory : Result Status NoMemoryFault → Status

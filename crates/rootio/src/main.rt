@@ -33,9 +33,9 @@ mod tree_word;
 mod words;
 
 use rio_host::{FileHost, StdSource};
-use rio_num::{Name, NoMemory, Words};
+use rio_num::{Bytes, Name, NoMemory, Words};
 use split::{file_word, host_may_write, is_split};
-use status::{Status, code, ended, shown, told_line};
+use status::{Status, code, ended, in_use_line, shown, told_line};
 use std::alloc::Global;
 use std::env;
 use std::io::{ErrorKind, Write};
@@ -65,8 +65,9 @@ fn words_of(alloc: Global, args: &[String]) -> Result<Words, NoMemory> {
     Ok(words)
 }
 
-// Does what the words ask for, over the file that they name and the process's own streams.
-fn run_words(rt: &HostRuntime) -> Result<Status, NoMemory> {
+// Does what the words ask for, over the file that they name and the process's own streams. Puts the
+// line for a file in use into `note`, if there is memory for it.
+fn run_words(rt: &HostRuntime, note: &mut Bytes) -> Result<Status, NoMemory> {
     let args = args_of(rt)?;
     let words = words_of(rt.alloc(), &args)?;
     let split = is_split(rt.alloc(), &args)?;
@@ -77,14 +78,20 @@ fn run_words(rt: &HostRuntime) -> Result<Status, NoMemory> {
     };
     let mut host = FileHost::new(rt, path, host_may_write(&words, split));
     let mut input = StdSource::new(rt);
-    Ok(run(rt.alloc(), &words, &mut host, &mut input))
+    let status = run(rt.alloc(), &words, &mut host, &mut input);
+    if let Ok(line) = in_use_line(rt.alloc(), host.is_in_use(), file_word(&words, split)) {
+        *note = line;
+    }
+    Ok(status)
 }
 
 fn main(rt: HostRuntime) -> ExitCode {
-    let status = ended(run_words(&rt));
+    let mut note = Bytes::new(rt.alloc());
+    let status = ended(run_words(&rt, &mut note));
     // There is nothing left to do where the fault can't be told.
     let _ = rt
         .stderr()
         .write_all(shown(&told_line(rt.alloc(), &status)));
+    let _ = rt.stderr().write_all(note.as_slice());
     ExitCode::from(code(&status))
 }

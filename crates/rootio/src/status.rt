@@ -2,7 +2,7 @@
 ghost use Rattle.std.specs.Prelude.{◌≡◌, ◌++◌, OnOk, OnErr, IfOk, IsOk, MatchResult, codes};
 ghost use Rattle.rio_num.specs.Room.{with_more};
 ghost use Rattle.std.specs.Fmt.{decimal};
-ghost use Rattle.rootio.specs.Status.{status_code, status_or_no_memory, status_text, told_line};
+ghost use Rattle.rootio.specs.Status.{in_use_line, status_code, status_or_no_memory, status_text, told_line};
 
 use rio_head::{FileFault, Reason};
 use rio_num::{Bytes, NoMemory};
@@ -126,6 +126,19 @@ pub fn shown(line: &Result<Bytes, NoMemory>) -> &[u8]
         Ok(line) => line.as_slice(),
         Err(NoMemory) => b"rootio: no memory\n",
     }
+}
+
+/// What is told in a line more of a file that is in use, by its name, and nothing of one that isn't.
+pub fn in_use_line(alloc: Global, is_in_use: bool, file: &[u8]) -> Result<Bytes, NoMemory>
+    ensures { IfOk result (λ line. line.bytes ≡ in_use_line is_in_use file.now) }
+{
+    if !is_in_use {
+        return Ok(Bytes::new(alloc));
+    }
+    let mut line = Bytes::from_slice(alloc, b"rootio: ")?;
+    line.put(file)?;
+    line.put(b" is in use\n")?;
+    Ok(line)
 }
 
 /// How a run ended, also one that found no memory before it began.

@@ -1,13 +1,13 @@
-//! Commands are done without printing, on a file `a.root` in memory.
-ghost use Rattle.std.specs.Prelude.{◌≡◌, false, OnOk};
+//! Commands are refused without printing, on a new file in memory. The verb that does so, `gen`, has none refused.
+ghost use Rattle.std.specs.Prelude.{◌≡◌, false, IfOk, OnOk};
 ghost use Rattle.rio_host.specs.MemHost.{view_of};
 ghost use Rattle.rio_step.specs.Statable.{IsStatable};
 ghost use Rattle.rio_session.specs.Session.{IsReady};
 
-use super::sessions::{HI, HU, close, empty_host, get, holds_two, is_empty_file, open, put};
 use rio_host::MemHost;
 use rio_machine::{Command, Outcome, Refusal};
-use rio_session::{Session, SessionFault};
+use rio_num::{Bytes, Name, NoMemory, Numbers};
+use rio_session::{OpenFault, Session, SessionFault};
 use std::alloc::Global;
 
 // Does a command, and prints nothing.
@@ -40,60 +40,50 @@ fn act_and_close(
 {
     let one = act(&mut session, host, first)?;
     let other = act(&mut session, host, second)?;
-    close(session, host)?;
+    session.close(host)?;
     Ok((one, other))
 }
 
-// Makes a file, does two commands, and closes the file.
-fn run(
-    alloc: Global,
-    host: &mut MemHost,
-    first: &Command,
-    second: &Command,
-) -> Result<(Outcome, Outcome), SessionFault>
-    requires first { IsStatable first.now }
-    requires second { IsStatable second.now }
+fn open(alloc: Global, host: &mut MemHost) -> Result<Session, SessionFault>
+    ensures fresh { IfOk result (λ session. session.failed ≡ false) }
+    ensures ready { IfOk result (IsReady (view_of host.new)) }
 {
-    let session = open(alloc, host)?;
-    act_and_close(session, host, first, second)
-}
-
-fn run_puts(alloc: Global, host: &mut MemHost) -> Result<(Outcome, Outcome), SessionFault> {
-    let first = put(alloc, HI)?;
-    let second = put(alloc, HU)?;
-    run(alloc, host, &first, &second)
-}
-
-// Does a bad line, and tells what isn't there.
-fn run_refused(alloc: Global, host: &mut MemHost) -> Result<(Outcome, Outcome), SessionFault> {
-    let second = get(alloc, None)?;
-    run(alloc, host, &Command::Bad { line: 3, place: 0 }, &second)
-}
-
-fn stores_two(alloc: Global) -> bool {
-    let mut host = empty_host(alloc);
-    match run_puts(alloc, &mut host) {
-        Ok((Outcome::Accepted, Outcome::Accepted)) => {
-            host.said().is_empty() && holds_two(host.image())
-        }
-        _ => false,
+    match Session::open(alloc, host, b"a.root", 1) {
+        Ok(session) => Ok(session),
+        Err(OpenFault::HostFault) => Err(SessionFault::HostFault),
+        Err(_) => Err(SessionFault::NoMemory),
     }
 }
 
-#[test]
-fn stores_two_objects_and_prints_nothing(rt: HostRuntime) {
-    assert!(rt; stores_two(rt.alloc()));
+// Prints what isn't there.
+fn get(alloc: Global) -> Result<Command, NoMemory>
+    ensures stated { IfOk result IsStatable }
+{
+    let name = Name::from_slice(alloc, b"s")?;
+    Ok(Command::Get {
+        name,
+        cycle: None,
+        version: None,
+    })
 }
 
+// Makes a file, does a bad line and gets what isn't there, and closes the file.
+fn run_refused(alloc: Global, host: &mut MemHost) -> Result<(Outcome, Outcome), SessionFault> {
+    let second = get(alloc)?;
+    let session = open(alloc, host)?;
+    act_and_close(session, host, &Command::Bad { line: 3, place: 0 }, &second)
+}
+
+// Whether nothing is printed, and the file is closed without objects.
 fn refuses(alloc: Global) -> bool {
-    let mut host = empty_host(alloc);
+    let mut host = MemHost::new(alloc, Bytes::new(alloc), Numbers::new(alloc));
     match run_refused(alloc, &mut host) {
         Ok(
             (
                 Outcome::Refused(Refusal::BadLine { line, place }),
                 Outcome::Refused(Refusal::NoSuchName),
             ),
-        ) => { line == 3 && place == 0 && host.said().is_empty() && is_empty_file(host.image()) }
+        ) => line == 3 && place == 0 && host.said().is_empty() && host.image().len() == 308,
         _ => false,
     }
 }

@@ -1,197 +1,66 @@
-//! Rows of class lists in bytes, with the classes or the fault that they stand for.
-
-mod foreign;
-mod kinds;
-mod pieces;
-mod written;
-
-use crate::rows::hex::hex_bytes;
-use crate::rows::printed::printed_classes;
-use rio_format::ObjFault;
-use rio_info::read_info;
-use rio_num::{Bytes, NoMemory};
+//! Class lists of classes that no script declares.
+use crate::rows::classes::{ClassRow, Holds, bare_class, classes_of, member_of};
+use rio_describe::{JudgedLists, member_element, tree_classes};
+use rio_format::{ClassLists, Classes, Prim};
+use rio_info::info_length;
+use rio_num::NoMemory;
 use std::alloc::Global;
 
-struct Row {
-    bytes: &'static str,
-    text: &'static str,
+// A class with a pointer to one whose name has 254 bytes, five lines of 50 and one of 4.
+static LONG: [ClassRow; 1] = [ClassRow {
+    name: "Node",
+    version: 1,
+    sum: 1_976_999_853,
+    bases: &[],
+    members: &[
+        ("val", Holds::Plain(Prim::I32)),
+        (
+            "next",
+            Holds::Pointer(
+                "NNNNNNNNNNNNNNNNNNNNNNNNNNNNNNNNNNNNNNNNNNNNNNNNNN\
+                 NNNNNNNNNNNNNNNNNNNNNNNNNNNNNNNNNNNNNNNNNNNNNNNNNN\
+                 NNNNNNNNNNNNNNNNNNNNNNNNNNNNNNNNNNNNNNNNNNNNNNNNNN\
+                 NNNNNNNNNNNNNNNNNNNNNNNNNNNNNNNNNNNNNNNNNNNNNNNNNN\
+                 NNNNNNNNNNNNNNNNNNNNNNNNNNNNNNNNNNNNNNNNNNNNNNNNNN\
+                 NNNN",
+            ),
+        ),
+    ],
+    title: "",
+}];
+
+fn length_of(alloc: Global, rows: &[ClassRow]) -> Result<u64, NoMemory> {
+    let classes = classes_of(alloc, rows)?;
+    info_length(alloc, &classes)
 }
 
-// Lists whose first byte has the place 64.
-static READ: [Row; 6] = [
-    // One class, of a number and a pointer.
-    Row {
-        bytes: "40000149 0005 0001 00000000 00000000 00 00000001 40000133 FFFFFFFF \
-                5453747265616D6572496E666F00 4000011D 0009 40000012 0001 0001 00000000 00000000 04 \
-                4E6F6465 00 12345678 00000001 400000F9 FFFFFFFF 544F626A417272617900 400000E7 0003 \
-                0001 00000000 00000000 00 00000002 00000000 40000060 FFFFFFFF \
-                5453747265616D657242617369635479706500 40000045 0002 4000003F 0004 40000011 0001 \
-                0001 00000000 00000000 03 76616C 00 00000003 00000004 00000000 00000000 00000000 \
-                00000000 00000000 00000000 00000000 03 696E74 4000006A FFFFFFFF \
-                5453747265616D65724F626A656374416E79506F696E74657200 40000048 0001 40000042 0004 \
-                40000012 0001 0001 00000000 00000000 04 6E657874 00 00000045 00000000 00000000 \
-                00000000 00000000 00000000 00000000 00000000 00000000 05 4E6F64652A 00",
-        text: "Node 1 305419896 { val: i32, next: pointer Node }",
-    },
-    // Skipped are a list of rules, null, a reference to a class before, a class of another version and one whose
-    // name is of another version. A class may stand twice, and without elements. Bytes follow.
-    Row {
-        bytes: "4000023C 0005 0001 00000000 00000000 00 00000007 40000053 FFFFFFFF 544C69737400 \
-                40000045 0005 0001 00000000 00000000 0B 6C6973744F6652756C6573 00000001 40000024 \
-                FFFFFFFF 544F626A537472696E6700 40000011 0001 0001 00000000 00000000 04 72756C65 \
-                00 00 40000133 FFFFFFFF 5453747265616D6572496E666F00 4000011D 0009 40000012 0001 \
-                0001 00000000 00000000 04 4E6F6465 00 00000001 00000001 400000F9 FFFFFFFF \
-                544F626A417272617900 400000E7 0003 0001 00000000 00000000 00 00000002 00000000 \
-                40000060 FFFFFFFF 5453747265616D657242617369635479706500 40000045 0002 4000003F \
-                0004 40000011 0001 0001 00000000 00000000 03 76616C 00 00000003 00000004 00000000 \
-                00000000 00000000 00000000 00000000 00000000 00000000 03 696E74 4000006A FFFFFFFF \
-                5453747265616D65724F626A656374416E79506F696E74657200 40000048 0001 40000042 0004 \
-                40000012 0001 0001 00000000 00000000 04 6E657874 00 00000045 00000000 00000000 \
-                00000000 00000000 00000000 00000000 00000000 00000000 05 4E6F64652A 00 00000000 00 \
-                000000AF 00 4000002B 800000B3 40000023 0008 40000011 0001 0001 00000000 00000000 \
-                03 4F6C64 00 00000005 00000001 00000000 00 4000002B 800000B3 40000023 0009 \
-                40000011 0002 0001 00000000 00000000 03 4F6464 00 00000005 00000001 00000000 00 \
-                4000002C 800000B3 40000024 0009 40000012 0001 0001 00000000 00000000 04 4E6F6465 \
-                00 00000002 00000001 00000000 00 0102",
-        text: "Node 1 1 { val: i32, next: pointer Node }; Node 1 2 { }",
-    },
-    // Bases, arrays with and without a counter before them, and codes that stand for nothing.
-    Row {
-        bytes: "400004AD 0005 0001 00000000 00000000 00 00000001 40000497 FFFFFFFF \
-                5453747265616D6572496E666F00 40000481 0009 40000011 0001 0001 00000000 00000000 03 \
-                416C6C 00 00000007 00000002 4000045E FFFFFFFF 544F626A417272617900 4000044C 0003 \
-                0001 00000000 00000000 00 0000000C 00000000 40000064 FFFFFFFF \
-                5453747265616D65724261736500 4000004E 0003 40000044 0004 40000015 0001 0001 \
-                00000000 00000000 07 544F626A656374 00 00000042 00000000 00000000 00000000 \
-                00000000 00000000 00000000 00000000 00000000 04 42415345 00000001 40000065 \
-                FFFFFFFF 5453747265616D657242617369635479706500 4000004A 0002 40000044 0004 \
-                40000015 0001 0001 00000000 00000000 01 62 06 612062797465 00000001 00000001 \
-                00000000 00000000 00000000 00000000 00000000 00000000 00000000 04 63686172 \
-                40000053 800000BF 4000004B 0003 40000041 0004 40000012 0001 0001 00000000 00000000 \
-                04 4E6F6465 00 00000000 00000000 00000000 00000000 00000000 00000000 00000000 \
-                00000000 00000000 04 42415345 00000003 40000051 80000127 40000049 0002 40000043 \
-                0004 40000013 0001 0001 00000000 00000000 05 7468726565 00 00000016 00000006 \
-                00000003 00000001 00000003 00000000 00000000 00000000 00000000 05 73686F7274 \
-                4000004B 80000127 40000043 0002 4000003D 0004 4000000F 0001 0001 00000000 00000000 \
-                01 6E 00 00000006 00000004 00000000 00000000 00000000 00000000 00000000 00000000 \
-                00000000 03 696E74 40000076 FFFFFFFF 5453747265616D65724261736963506F696E74657200 \
-                40000058 0002 40000048 0004 4000000F 0001 0001 00000000 00000000 01 77 00 00000033 \
-                00000004 00000000 00000000 00000000 00000000 00000000 00000000 00000000 0E \
-                756E7369676E656420636861722A 00000001 01 6E 03 416C6C 40000056 8000028B 4000004E \
-                0002 4000003E 0004 4000000F 0001 0001 00000000 00000000 01 78 00 0000002B 00000004 \
-                00000000 00000000 00000000 00000000 00000000 00000000 00000000 04 696E742A \
-                00000001 01 6D 03 416C6C 4000004B 80000127 40000043 0002 4000003D 0004 4000000F \
-                0001 0001 00000000 00000000 01 6D 00 00000006 00000004 00000000 00000000 00000000 \
-                00000000 00000000 00000000 00000000 03 696E74 4000004D 80000127 40000045 0002 \
-                4000003F 0004 40000011 0001 0001 00000000 00000000 03 6E6567 00 00000017 00000000 \
-                FFFFFFFF 00000000 00000000 00000000 00000000 00000000 00000000 03 696E74 4000004D \
-                80000127 40000045 0002 4000003F 0004 40000011 0001 0001 00000000 00000000 03 \
-                633236 00 0000001A 00000000 00000002 00000001 00000002 00000000 00000000 00000000 \
-                00000000 03 696E74 4000004D 80000127 40000045 0002 4000003F 0004 40000011 0001 \
-                0001 00000000 00000000 03 633436 00 0000002E 00000000 00000000 00000000 00000000 \
-                00000000 00000000 00000000 00000000 03 696E74 40000051 800000BF 40000049 0003 \
-                4000003F 0004 40000010 0001 0001 00000000 00000000 02 6E62 00 00000003 00000000 \
-                00000000 00000000 00000000 00000000 00000000 00000000 00000000 04 42415345 \
-                00000001 00",
-        text: "All 2 7 : TObject 1, Node 3 { b: i8 \"a byte\", three: i16[3], n: counter, w: \
-               u8[n], x: other 43, m: counter, neg: other 23, c26: other 26, c46: other 46, nb: \
-               i32 }",
-    },
-    // An element of another class, other members, null, and an element of another version.
-    Row {
-        bytes: "40000331 0005 0001 00000000 00000000 00 00000001 4000031B FFFFFFFF \
-                5453747265616D6572496E666F00 40000305 0009 40000011 0001 0001 00000000 00000000 03 \
-                4F6464 00 00000003 00000001 400002E2 FFFFFFFF 544F626A417272617900 400002D0 0003 \
-                0001 00000000 00000000 00 00000008 00000000 40000068 FFFFFFFF \
-                5453747265616D657253544C00 40000053 0003 40000045 0004 4000000F 0001 0001 00000000 \
-                00000000 01 76 00 000001F4 00000018 00000000 00000000 00000000 00000000 00000000 \
-                00000000 00000000 0B 766563746F723C696E743E 00000001 00000003 4000005F FFFFFFFF \
-                5453747265616D65724F626A656374416E7900 40000044 0002 4000003E 0004 4000000F 0001 \
-                0001 00000000 00000000 01 6F 00 000001F4 00000000 00000000 00000000 00000000 \
-                00000000 00000000 00000000 00000000 04 536F6D65 4000005F FFFFFFFF \
-                5453747265616D6572537472696E6700 40000047 0002 40000041 0004 4000000F 0001 0001 \
-                00000000 00000000 01 74 00 00000041 00000018 00000000 00000000 00000000 00000000 \
-                00000000 00000000 00000000 07 54537472696E67 4000004E 8000012B 40000046 0002 \
-                40000040 0004 40000010 0001 0001 00000000 00000000 02 696E 00 0000003E 00000000 \
-                00000000 00000000 00000000 00000000 00000000 00000000 00000000 05 5665632A2A \
-                4000005F FFFFFFFF 5453747265616D65724F626A65637400 40000047 0002 40000041 0004 \
-                40000010 0001 0001 00000000 00000000 02 746E 00 00000043 00000000 00000000 \
-                00000000 00000000 00000000 00000000 00000000 00000000 06 544E616D6564 40000067 \
-                FFFFFFFF 5453747265616D65724F626A656374506F696E74657200 40000048 0002 40000042 \
-                0004 4000000F 0001 0001 00000000 00000000 01 70 00 00000040 00000000 00000000 \
-                00000000 00000000 00000000 00000000 00000000 00000000 08 544F626A6563742A 00000000 \
-                40000061 FFFFFFFF 5453747265616D657242617369635479706500 40000046 0002 40000040 \
-                0003 40000012 0001 0001 00000000 00000000 04 6C617465 00 00000003 00000004 \
-                00000000 00000000 00000000 00000000 00000000 00000000 00000000 03 696E74 00",
-        text: "Odd 1 3 { ?: other 0, o: other 500, t: text, in: object Vec*, tn: object TNamed, p: \
-               pointer TObject, ?: other 0, ?: other 0 }",
-    },
-    // No items.
-    Row {
-        bytes: "40000011 0005 0001 00000000 00000000 00 00000000",
-        text: "",
-    },
-    // Another version.
-    Row {
-        bytes: "40000003 0004 01",
-        text: "",
-    },
+// The list for Node has 4 bytes of a count word, and the 0x1098 that it counts: 4,252. Its last text, `Node*`, takes 6
+// of them. With an asterisk behind a name of 254 bytes it is a text of 255 bytes, which takes 260: 254 more.
+#[test]
+fn a_long_name_of_a_type_has_its_length_in_five_bytes(rt: HostRuntime) {
+    assert!(rt; length_of(rt.alloc(), &LONG) == Ok(4506));
+}
+
+// Members of classes that are built in or of trees, and the class and the code of their elements.
+static MEMBERS: [(Holds, &str, i32); 3] = [
+    (Holds::Inline("TObjArray"), "TStreamerObject", 61),
+    (Holds::Inline("TArrayI"), "TStreamerObjectAny", 62),
+    (Holds::Pointer("TLeafI"), "TStreamerObjectPointer", 64),
 ];
 
-// The list of one class, with an element whose count is one too high.
-static FAULTY: &str = "40000149 0005 0001 00000000 00000000 00 00000001 40000133 FFFFFFFF \
-     5453747265616D6572496E666F00 4000011D 0009 40000012 0001 0001 00000000 00000000 04 4E6F6465 \
-     00 00000001 00000001 400000F9 FFFFFFFF 544F626A417272617900 400000E7 0003 0001 00000000 \
-     00000000 00 00000002 00000000 40000060 FFFFFFFF 5453747265616D657242617369635479706500 \
-     40000045 0002 40000040 0004 40000011 0001 0001 00000000 00000000 03 76616C 00 00000003 \
-     00000004 00000000 00000000 00000000 00000000 00000000 00000000 00000000 03 696E74 4000006A \
-     FFFFFFFF 5453747265616D65724F626A656374416E79506F696E74657200 40000048 0001 40000042 0004 \
-     40000012 0001 0001 00000000 00000000 04 6E657874 00 00000045 00000000 00000000 00000000 \
-     00000000 00000000 00000000 00000000 00000000 05 4E6F64652A 00";
-
-// The classes that are read of the bytes, as text.
-fn classes_in(alloc: Global, bytes: &[u8]) -> Result<Bytes, ObjFault> {
-    if bytes.len() > 10_000 {
-        return Err(ObjFault::NoMemory);
-    }
-    let classes = read_info(alloc, bytes, 64)?;
-    Ok(printed_classes(alloc, classes.as_slice())?)
-}
-
-fn classes_text(alloc: Global, bytes: &str) -> Result<Bytes, ObjFault> {
-    let bytes = hex_bytes(alloc, bytes)?;
-    classes_in(alloc, bytes.as_slice())
-}
-
-impl Row {
-    fn is_read(&self, alloc: Global) -> bool {
-        match classes_text(alloc, self.bytes) {
-            Ok(text) => text.as_slice() == self.text.as_bytes(),
-            Err(_) => false,
-        }
-    }
+fn has_element(alloc: Global, holds: Holds, class: &str, code: i32) -> Result<bool, NoMemory> {
+    let trees = tree_classes(alloc)?;
+    let declared = Classes::new(alloc);
+    let owner = bare_class(alloc, "Node", 3, 7)?;
+    let member = member_of(alloc, "x", holds, "")?;
+    let classes = JudgedLists::new(alloc, ClassLists::Two(&trees, &declared))?;
+    let element = member_element(&classes, &owner, &member);
+    Ok(element.class_name() == class.as_bytes() && element.code == code)
 }
 
 #[test]
-fn reads(rt: HostRuntime) {
-    for row in &READ {
-        assert!(rt; row.is_read(rt.alloc()), "{}", row.text);
+fn elements_of_classes_that_are_known(rt: HostRuntime) {
+    for (holds, class, code) in &MEMBERS {
+        assert!(rt; has_element(rt.alloc(), *holds, class, *code) == Ok(true), "{}", class);
     }
-}
-
-fn is_refused(alloc: Global, bytes: &str, wanted: ObjFault) -> bool {
-    match classes_text(alloc, bytes) {
-        Ok(_) => false,
-        Err(fault) => fault == wanted,
-    }
-}
-
-#[test]
-fn refuses(rt: HostRuntime) {
-    let wanted = ObjFault::CountMismatch {
-        place: 219,
-        said: 64,
-        used: 63,
-    };
-    assert!(rt; is_refused(rt.alloc(), FAULTY, wanted));
 }

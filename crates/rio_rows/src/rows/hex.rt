@@ -10,8 +10,8 @@ fn digit_of(c: u8) -> u8 {
     }
 }
 
-/// Appends the bytes that a text gives in hexadecimal digits, with blanks between them.
-pub(crate) fn put_hex(bytes: &mut Bytes, text: &str) -> Result<(), NoMemory> {
+// Appends the bytes that a text gives in hexadecimal digits, with blanks between them.
+fn put_hex(bytes: &mut Bytes, text: &str) -> Result<(), NoMemory> {
     let mut high: Option<u8> = None;
     for c in text.as_bytes() {
         if *c == b' ' {

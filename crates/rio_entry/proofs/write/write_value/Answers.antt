@@ -6,20 +6,20 @@ use Rattle.rio_entry.proofs.{Answered.{too_long, written}, ClassBytes.{object_by
 use Rattle.rio_machine.specs.declared.entry_fault.EntryFault.{EntryFault}
 use Rattle.rio_entry.proofs.write.write_value.Goals as goal
 
-pub returns-then-branch-gt-LIMIT : goal.returns-then-branch-gt-LIMIT
-returns-then-branch-gt-LIMIT c = λ counts ne.
+pub returns-then-branch-gt-LENGTH_LIMIT : goal.returns-then-branch-gt-LENGTH_LIMIT
+returns-then-branch-gt-LENGTH_LIMIT c = λ counts ne.
     let fit : fits c.args.classes.now c.args.class.now c.args.value.now ≡ true = sym c.in_ok-fits.ensures ∙ c.if-not-branch.false in
     let same = object_bytes c.args.classes.now c.args.class.now counts c.args.value.now fit in
-    too_long c.args.classes.now (Class c.args.class.now) counts (c.args.value.now ∷ []) (object_fits c.args.classes.now c.args.class.now counts c.args.value.now ∙ fit) (written_form c.args.classes.now 0 c.args.value.now) (sym same) (omega (arith, c.in_ok-written_length.ensures 0, c.if-branch-gt-LIMIT.true))
+    too_long c.args.classes.now (Class c.args.class.now) counts (c.args.value.now ∷ []) (object_fits c.args.classes.now c.args.class.now counts c.args.value.now ∙ fit) (written_form c.args.classes.now 0 c.args.value.now) (sym same) (omega (arith, c.in_ok-written_length.ensures 0, c.if-branch-gt-LENGTH_LIMIT.true))
 
 pub write_object-requires : goal.write_object-requires
-write_object-requires c = omega (arith, c.in_ok-written_length.ensures 0, c.if-branch-gt-LIMIT.false)
+write_object-requires c = omega (arith, c.in_ok-written_length.ensures 0, c.if-branch-gt-LENGTH_LIMIT.false)
 
 pub returns : goal.returns
 returns c = λ counts.
     let fit : fits c.args.classes.now c.args.class.now c.args.value.now ≡ true = sym c.in_ok-fits.ensures ∙ c.if-not-branch.false in
     let same = object_bytes c.args.classes.now c.args.class.now counts c.args.value.now fit in
-    written c.args.classes.now (Class c.args.class.now) counts (c.args.value.now ∷ []) (object_fits c.args.classes.now c.args.class.now counts c.args.value.now ∙ fit) (written_form c.args.classes.now 0 c.args.value.now) (sym same) (omega (arith, c.in_ok-written_length.ensures 0, c.if-branch-gt-LIMIT.false))
+    written c.args.classes.now (Class c.args.class.now) counts (c.args.value.now ∷ []) (object_fits c.args.classes.now c.args.class.now counts c.args.value.now ∙ fit) (written_form c.args.classes.now 0 c.args.value.now) (sym same) (omega (arith, c.in_ok-written_length.ensures 0, c.if-branch-gt-LENGTH_LIMIT.false))
     ∙ ap (λ (room : Room). let r : Result (List ℕ) EntryFault = Ok room.bytes in r) (sym c.in_ok-write_object.ensures.exact)
 
 pub returns-in_err-fits : goal.returns-in_err-fits
