@@ -6,6 +6,7 @@ Usage: forest.py FILE <DESCRIPTION
     large                               the large form, with all records but the first past 3,000,000,000 (sparse)
     class NAME VERSION : BASES { .. }   a class of the class list, as `dump` prints it; a base may be NAME#VERSION
     only                                the class list has these alone, without the classes of trees
+    padded                              each record's length is a multiple of four, as it is in files that can be written to
     tree NAME ENTRIES [WORD..]          a tree of the branches that follow; cycle=N, version=N of TTree
     branch NAME ENTRIES WORD.. | ..     a branch, with its baskets, each after a bar
     null                                a null pointer in place of a branch
@@ -16,10 +17,11 @@ letter is unsigned);
 objects=CLASS; class=CLASS and version=N of the branch; `parent` and `embedded`, where fBranches and fBaskets have an object; more=N,
 how many more baskets fWriteBasket says. COUNTER is the name of an earlier leaf, or #N for leaf N of the tree, from 0 on.
 
-A basket is the bytes of each of its entries in hexadecimal: with points between digits, `-` for none, and BYTE*N for N bytes. What the
+A basket is the bytes of each of its entries in hexadecimal: parts with points between, of which BYTE*N is N bytes, or `-` for none. What the
 offsets, the header of the tree and the basket's key say follows from that, where it isn't given: first=N, the first entry; entries=N,
 size=N and used=N, its entries, their size and the bytes of all; fewer=N, how many bytes fewer its record has by the header. A tree,
 too, may have shrunk=N: it was so many bytes longer before it was compressed. Words are quoted as in the shell."""
+import functools
 import itertools
 import os
 import re
@@ -55,14 +57,15 @@ def member(name, kind, counted, owner):
 
 
 def class_of(line, classes):
-    """The class of a declaration, whose bases are among these."""
+    """The class of a declaration, whose bases are among these. Its checksum is over the declaration's text."""
     name, version, bases, members = re.fullmatch(r"class (\S+) (\d+)(?: : (.*?))? \{ ?(.*?) ?\}", line).groups()
     latest = {"TNamed": 1, **{it[0]: it[1] for it in classes}}
     pairs = [it.partition("#") for it in bases.split(", ")] if bases else []
     elements = [made.base(it, int(number or latest[it])) for it, _, number in pairs]
     counted = re.findall(r"\[([a-z]\w*)\]", members, re.I)
     fields = [it.split(": ") for it in members.split(", ")] if members else []
-    return name, int(version), elements + [member(*it, counted, (name, int(version))) for it in fields]
+    checksum = functools.reduce(lambda sum, byte: (sum * 3 + byte) % 2**32, line.encode(), 0)
+    return name, int(version), elements + [member(*it, counted, (name, int(version))) for it in fields], checksum
 
 
 def leaf(word):
@@ -82,8 +85,8 @@ def settings(words):
 
 
 def entry(word):
-    digits, _, count = word.partition("*")
-    return bytes.fromhex(digits.replace(".", "").replace("-", "")) * int(count or 1)
+    parts = [it.partition("*") for it in word.strip("-").split(".")]
+    return b"".join(bytes.fromhex(digits) * int(count or 1) for digits, _, count in parts)
 
 
 def baskets_of(words):
@@ -131,7 +134,7 @@ class Header(made.Header):
 class Forest(made.File):
     def __init__(self, path, lines):
         super().__init__(path, "a.root", "large" in lines)
-        self.padded = False
+        self.padded = "padded" in lines
         self.place = FAR if self.large else self.place
         self.classes = made.tree_classes()
         self.first = len(self.classes) if "only" in lines else 0

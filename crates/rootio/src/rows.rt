@@ -1,8 +1,6 @@
 //! Worked rows: what the program answers for files whose bytes and listings come from the format's rules.
 mod changes;
 mod classes;
-mod cuts;
-mod damaged;
 mod declared;
 mod deletes;
 mod failing;
@@ -18,11 +16,8 @@ mod many;
 mod parts;
 mod pen;
 mod recover;
-mod refused;
 mod run;
 mod runs;
-mod scan;
 mod stops;
 mod tree_recovery;
-mod two_headers;
 mod undone;

@@ -99,7 +99,7 @@ struct Row {
 const NINE: &[u8] = b"tree T a=a/I b=b/I\nfill T [1, 11]\nfill T [2, 12]\nfill T [3, 13]\nsave T\n\
     fill T [4, 14]\nfill T [5, 15]\nsave T\nfill T [6, 16]\nfill T [7, 17]\nfill T [8, 18]\nfill T [9, 19]\n";
 
-// An object whose `f` is a number, and another version in which it is a floating-point number. Its basket stands at 4716 with a key of
+// An object whose `f` is a number, and another version in which it is a floating-point number. Its basket stands at 4712 with a key of
 // 57 bytes, and the object's version is 4 bytes after that.
 const ONE: &[u8] =
     b"class Q 1 { f: i32 }\ntree T a=class:Q\nfill T [Q{f: 9}]\nsave T\nclass Q 2 { f: f32 }\n";
@@ -130,7 +130,7 @@ static ROWS: [Row; 3] = [
         script: ONE,
         words: &["scan", "a.root", "T", "Q#1"],
         calls: 11,
-        changes: &[(4716 + 57 + 4, 0x0002_0000)],
+        changes: &[(4712 + 57 + 4, 0x0002_0000)],
         said: b"ok scan T 1\n0 fault KindChanged f\n",
     },
 ];
