@@ -12,15 +12,15 @@ Usage: forest.py FILE <DESCRIPTION
     null                                a null pointer in place of a branch
     object NAME CYCLE [CLASS [DATA]]    an object
 
-WORD of a branch: a leaf, which is NAME, [COUNTER] or [LENGTH] or both, and /LETTER or /CLASS, with #VERSION where that isn't 101 (a small
-letter is unsigned);
-objects=CLASS; class=CLASS and version=N of the branch; `parent` and `embedded`, where fBranches and fBaskets have an object; more=N,
-how many more baskets fWriteBasket says. COUNTER is the name of an earlier leaf, or #N for leaf N of the tree, from 0 on.
+WORD of a branch: a leaf, which is NAME, [COUNTER] or [LENGTH] or both, and /LETTER (a small one is unsigned) or /CLASS, with #VERSION
+where that isn't 101; objects=CLASS; class=CLASS and version=N of the branch itself; `parent` and `embedded`, where fBranches and
+fBaskets have an object; more=N, how many more baskets fWriteBasket says. COUNTER is the name of an earlier leaf, or #N for leaf N of
+the tree, from 0 on.
 
-A basket is the bytes of each of its entries in hexadecimal: parts with points between, of which BYTE*N is N bytes, or `-` for none. What the
-offsets, the header of the tree and the basket's key say follows from that, where it isn't given: first=N, the first entry; entries=N,
-size=N and used=N, its entries, their size and the bytes of all; fewer=N, how many bytes fewer its record has by the header. A tree,
-too, may have shrunk=N: it was so many bytes longer before it was compressed. Words are quoted as in the shell."""
+A basket is the bytes of each of its entries in hexadecimal: parts with points between, of which BYTE*N is N bytes, or `-` for none.
+What the offsets, the basket's key and the header of the tree say follows from that, where it isn't given: first=N, the first entry;
+entries=N, size=N and used=N, its entries, their size and the bytes of all; fewer=N, how many bytes fewer its record has by the header;
+shrunk=N, how many bytes longer it was before it was compressed, which a tree may have too. Words are quoted as in the shell."""
 import functools
 import itertools
 import os

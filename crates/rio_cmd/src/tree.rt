@@ -5,10 +5,10 @@ ghost use Rattle.rio_step.specs.Script.{asked_class_at, class_version_in, ended_
 
 use crate::branches::read_branches;
 use crate::command::take_keyword;
+use rio_format::Base;
 use rio_machine::Command;
 use rio_num::Name;
 use rio_token::{TextFault, Tokens};
-use rio_format::Base;
 use rio_valtext::take_values;
 use std::alloc::Global;
 

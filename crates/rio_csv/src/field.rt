@@ -2,9 +2,9 @@
 ghost use Rattle.std.specs.Prelude.{◌≡◌, IfOk};
 ghost use Rattle.rio_csv.specs.Fields.{field_kind, is_number_letter, truth_in, value_in_field, value_of_kind};
 
+use rio_format::Value;
 use rio_num::{Name, NoMemory};
 use rio_token::{Bits, parse_bits, parse_number};
-use rio_format::Value;
 use std::alloc::Global;
 
 /// What the fields of a leaf spell.

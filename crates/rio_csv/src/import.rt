@@ -6,10 +6,10 @@ ghost use Rattle.rio_machine.specs.declared.command.Command.TheVariants.{Fill as
 ghost use Rattle.rio_format.specs.declared.value.Value.{Value as Field};
 
 use crate::reader::RowReader;
+use rio_format::Values;
 use rio_leaf::BranchDefs;
 use rio_machine::Command;
 use rio_num::{Name, NoMemory};
-use rio_format::Values;
 use std::alloc::Global;
 use std::marker::Model;
 

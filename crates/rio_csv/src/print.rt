@@ -7,9 +7,9 @@ ghost use Rattle.rio_csv.specs.Fields.{field_of};
 ghost use Rattle.rio_csv.specs.Rows.{line_of};
 
 use csv::{ByteRecord, WriterBuilder};
+use rio_format::{Value, Values};
 use rio_num::{Bytes, NoMemory};
 use rio_valtext::print_value;
-use rio_format::{Value, Values};
 use std::alloc::Global;
 
 // Puts the value's field at the end of a record. The text is for use here.

@@ -5,9 +5,9 @@ ghost use Rattle.rio_csv.specs.Rows.{letters_of, row_in, shape_letters, values_i
 
 use crate::field::value_in_field;
 use csv::ByteRecord;
+use rio_format::Values;
 use rio_leaf::{BranchDef, Leaf, Shape};
 use rio_num::{Name, NoMemory};
-use rio_format::Values;
 use std::alloc::Global;
 
 fn push_leaves(leaves: &[Leaf], letters: &mut Name) -> Result<(), NoMemory>

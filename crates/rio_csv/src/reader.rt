@@ -7,9 +7,9 @@ ghost use Rattle.rio_csv.specs.Unread.{ReadsRecords, TakesFirst, TakesRecord, re
 
 use crate::read::{letters_of, row_in};
 use csv::{ByteRecord, Error, Reader, ReaderBuilder};
+use rio_format::{Rows, Values};
 use rio_leaf::BranchDef;
 use rio_num::{Name, NoMemory};
-use rio_format::{Rows, Values};
 use std::alloc::Global;
 use std::marker::Model;
 

@@ -5,8 +5,8 @@ ghost use Rattle.rio_decl.specs.Known.{KnowsCounters};
 ghost use Rattle.rio_model.specs.ClassGrammar.{counts_by};
 
 use crate::read_kind::may_count;
-use rio_num::{Name, Names, NoMemory};
 use rio_format::{Base, Bases, Kind, Member, Members};
+use rio_num::{Name, Names, NoMemory};
 use std::alloc::Global;
 use std::marker::Model;
 

@@ -4,8 +4,8 @@ ghost use Rattle.std.specs.List.{flat_map};
 ghost use Rattle.rio_num.specs.Room.{with_more};
 ghost use Rattle.rio_model.specs.ClassText.{base_text, bases_text, kind_text, member_text, members_text, primitive_text, text_of_class};
 
-use rio_num::{Bytes, NoMemory};
 use rio_format::{Base, ClassDef, Kind, Member, Prim};
+use rio_num::{Bytes, NoMemory};
 
 fn put_primitive(text: &mut Bytes, primitive: Prim) -> Result<(), NoMemory>
     ensures { OnOk result (text.new.bytes ≡ text.old.bytes ++ primitive_text primitive) }

@@ -10,9 +10,9 @@ ghost use Rattle.rio_decl.specs.Known.{KnowsCounters};
 use crate::checksum;
 use crate::known::{KnownBases, KnownMembers, NewMember, counters_of};
 use crate::read_kind::{may_count, read_kind};
+use rio_format::{Base, Bases, ClassDef, Kind, Member, Members};
 use rio_num::{Name, Names, NoMemory, is_name};
 use rio_token::{TextFault, Tokens};
-use rio_format::{Base, Bases, ClassDef, Kind, Member, Members};
 use std::alloc::Global;
 
 /// The class that the text declares from `place` on, where the word `class` stands, up to its end. Its

@@ -4,9 +4,9 @@ ghost use Rattle.rio_token.specs.Reading.{Reads};
 ghost use Rattle.rio_model.specs.ClassGrammar.{dimension_at, dimension_of, is_i32, is_i32_of, kind_at, plain_at, primitive_at, primitive_of, sized_at};
 
 use crate::known::KnownMembers;
+use rio_format::{Kind, Prim};
 use rio_num::{Name, NoMemory};
 use rio_token::{TextFault, Tokens, parse_num_between};
-use rio_format::{Kind, Prim};
 use std::alloc::Global;
 
 /// The kind of single values that a word names.

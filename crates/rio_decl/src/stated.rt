@@ -8,8 +8,8 @@ ghost use Rattle.rio_decl.specs.Known.{KnowsBases, KnowsPassed, is_known_kind, i
 use crate::checksum;
 use crate::known::counters_of;
 use crate::read_kind::{is_i32_primitive, primitive};
-use rio_num::{Names, NoMemory, is_name};
 use rio_format::{Base, ClassDef, Kind, Member};
+use rio_num::{Names, NoMemory, is_name};
 use std::alloc::Global;
 
 fn is_counter_kind(kind: &Kind) -> bool

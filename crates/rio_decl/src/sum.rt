@@ -4,8 +4,8 @@ ghost use Rattle.std.specs.List.{fold};
 ghost use Rattle.rio_model.specs.ClassGrammar.{checksum_of, summed};
 
 use crate::print_class;
-use rio_num::{Bytes, NoMemory};
 use rio_format::ClassDef;
+use rio_num::{Bytes, NoMemory};
 use std::alloc::Global;
 
 // The checksum with one more byte of the text.

@@ -2,8 +2,8 @@
 ghost use Rattle.std.specs.Prelude.{◌≡◌, [], ◌∷◌, ◌++◌, IfOk, OnOk};
 ghost use Rattle.rio_format.specs.{Bodies.{member}, Descriptions.{describing, named_base}};
 
-use rio_num::{Name, NoMemory};
 use rio_format::{Base, Bases, ClassDef, Kind, Member, Members};
+use rio_num::{Name, NoMemory};
 use std::alloc::Global;
 
 /// A class with one base.

@@ -3,8 +3,8 @@ ghost use Rattle.std.specs.Prelude.{◌≡◌, IfOk};
 ghost use Rattle.rio_format.specs.Descriptions.{bare_element, base_element_class, counted_element_class, describing, description_classes, element_base, element_class, info_class};
 
 use crate::class::{describing, named_base, push};
-use rio_num::{Name, NoMemory};
 use rio_format::{Base, ClassDef, Classes, Kind, Members, Prim};
+use rio_num::{Name, NoMemory};
 use std::alloc::Global;
 
 fn info_class(alloc: Global) -> Result<ClassDef, NoMemory>

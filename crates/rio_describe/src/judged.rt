@@ -3,7 +3,9 @@ ghost use Rattle.std.specs.Prelude.{◌≡◌, ◌∷◌, [], ◌++◌, is_some,
 ghost use Rattle.rio_format.specs.{Bases.{visit_bases}, Bodies.{built_in}, Lists.{listed}, Visits.{base_of}};
 ghost use Rattle.rio_describe.specs.Heirs.{AreTheHeirs, Judged, built_in_base, built_in_bases, candidates_of, class_base, has_reaching, is_heir};
 
-use rio_format::{Base, BaseSet, BuiltIn, ClassDef, ClassLists, Classes, headed_version, is_headed};
+use rio_format::{
+    Base, BaseSet, BuiltIn, ClassDef, ClassLists, Classes, headed_version, is_headed,
+};
 use rio_num::NoMemory;
 use std::alloc::Global;
 use std::marker::Model;

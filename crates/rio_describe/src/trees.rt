@@ -4,8 +4,8 @@ ghost use Rattle.rio_format.specs.declared.kind.Kind.TheVariants.{Counted, Inlin
 ghost use Rattle.rio_format.specs.TreeClasses.{array_member, branch_base, branch_class, branch_members, i32_member, i64_member, kind_leaf, leaf_base, leaf_class, leaf_members, object_branch_class, object_branch_members, of_baskets, tree_class, tree_classes, tree_members};
 
 use crate::class::{describing, named_base, push};
-use rio_num::{Name, NoMemory};
 use rio_format::{Base, ClassDef, Classes, Kind, Members, Prim};
+use rio_num::{Name, NoMemory};
 use std::alloc::Global;
 
 // ---- members

@@ -10,10 +10,10 @@ ghost use Rattle.rio_entry.specs.Lanes.{number_with, number_if_named};
 
 use crate::tree_row::{BranchRefusals, BranchRows};
 use crate::{Numbers, leaf_counts, note_leaves};
+use rio_format::{Value, Values};
 use rio_leaf::{Dim, Leaf, Shape};
 use rio_num::NoMemory;
 use rio_tree::{Branch, BranchRefusal};
-use rio_format::{Value, Values};
 use std::alloc::Global;
 
 // The branch at `k` is refused.

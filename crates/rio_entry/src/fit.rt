@@ -10,8 +10,8 @@ ghost use Rattle.rio_entry.specs.Leaves.{kind_fits, leaves_fit, single_fits};
 
 use crate::counter::LeafCounters;
 use crate::leaf::{given_count, letter_kind, said_count};
-use rio_leaf::{Dim, Leaf};
 use rio_format::{Prim, Value};
+use rio_leaf::{Dim, Leaf};
 
 fn int_fits(of: Prim, n: i128) -> bool
     ensures { result ≡ int_fits n (kinded (Plain of)) }

@@ -10,10 +10,10 @@ use crate::fit::{counted_fits, list_fits, single_fits};
 use crate::leaf::letter_kind;
 use crate::numbers::{Numbers, number_said, put_number};
 use rio_fit::fits;
+use rio_format::{Classes, Prim, Value};
 use rio_leaf::{Dim, Leaf, Shape};
 use rio_num::NoMemory;
 use rio_tree::Branch;
-use rio_format::{Classes, Prim, Value};
 use std::alloc::Global;
 
 // Whether the value fits a leaf of these numbers and this dimension, behind leaves that say such numbers.

@@ -10,8 +10,8 @@ ghost use Rattle.rio_entry.specs.Lanes.{IsHeld};
 
 use crate::index::basket_from;
 use crate::stored::{FoundBasket, read_stored_basket};
-use rio_key::BasketFault;
 use rio_host::{Host, ReadFault};
+use rio_key::BasketFault;
 use rio_tree::Branch;
 use std::alloc::Global;
 

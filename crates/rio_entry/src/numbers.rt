@@ -6,9 +6,9 @@ ghost use Rattle.rio_machine.specs.Rows.{leaf_column, leaf_numbers_after, shape_
 ghost use Rattle.rio_entry.specs.Leaves.{numbers_after};
 ghost use Rattle.rio_machine.specs.RowEntries.{count_before, counts_before};
 
+use rio_format::{Value, Values};
 use rio_leaf::{Dim, Leaf, Shape};
 use rio_num::NoMemory;
-use rio_format::{Value, Values};
 use std::alloc::Global;
 use std::collections::BTreeMap;
 

@@ -10,8 +10,8 @@ use crate::EntryFault;
 use crate::numbers::{Numbers, counts_beside, note_values};
 use crate::part::RowPart;
 use crate::read::read_entry_with;
-use rio_num::NoMemory;
 use rio_format::{Classes, Value, Values, copy};
+use rio_num::NoMemory;
 use std::alloc::Global;
 
 // The values of the branch's entry, behind leaves that say these numbers.

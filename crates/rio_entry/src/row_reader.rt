@@ -24,11 +24,11 @@ use crate::stored::out_of_memory;
 use crate::tree_counters::TreeCounters;
 use crate::tree_row::{BranchRefusals, TreeRow};
 use crate::{EntryFault, LeafCounters, check_entry_with, entry_numbers_with, read_entry_with};
-use rio_key::BasketFault;
+use rio_format::{Classes, Values};
 use rio_host::{Host, ReadFault};
+use rio_key::BasketFault;
 use rio_num::NoMemory;
 use rio_tree::{Branch, BranchRefusal};
-use rio_format::{Classes, Values};
 use std::alloc::Global;
 
 /// A tree in a file: the file's length and classes, and the tree's branches with their counters.

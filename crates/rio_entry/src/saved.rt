@@ -24,12 +24,12 @@ use crate::row::read_row;
 use crate::row_reader::FileTree;
 use crate::stored::{entry_behind, is_filled, out_of_memory};
 use crate::tree_counters::TreeCounters;
+use rio_format::{Classes, Values};
 use rio_host::{Host, ReadFault};
 use rio_key::KeyHead;
 use rio_machine::EntryFault;
 use rio_num::NoMemory;
 use rio_tree::{BasketAt, Branch, TreeHead};
-use rio_format::{Classes, Values};
 use std::alloc::Global;
 
 // Holds the baskets of an entry, one of each branch.

@@ -5,8 +5,8 @@ ghost use Rattle.rio_host.specs.OnlyReads.{OnlyReads};
 ghost use Rattle.rio_host.specs.Reading.{IsReadCause, Told};
 ghost use Rattle.rio_entry.specs.StoredEntries.{basket_bytes, entry_behind, is_compressed_basket, is_filled, refusal_of_baskets, stored_basket};
 
-use rio_key::{BasketFault, StoredBasket};
 use rio_host::{Host, ReadFault, prefix_at};
+use rio_key::{BasketFault, StoredBasket};
 use rio_num::NoMemory;
 use rio_tree::{BasketAt, BranchRefusal};
 use std::alloc::Global;

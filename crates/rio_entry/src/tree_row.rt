@@ -1,7 +1,7 @@
 //! The row of a tree at an entry.
+use rio_format::Values;
 use rio_num::{Items, NoMemory};
 use rio_tree::BranchRefusal;
-use rio_format::Values;
 use std::alloc::Global;
 
 /// The values of each branch at an entry.

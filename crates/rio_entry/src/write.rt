@@ -11,9 +11,9 @@ use crate::counter::LeafCounters;
 use crate::fit::leaves_fit;
 use crate::put::{leaves_length, leaves_written};
 use rio_fit::fits;
+use rio_format::{Classes, LENGTH_LIMIT, Value, Values};
 use rio_leaf::{BranchDef, Leaf, Shape};
 use rio_num::Bytes;
-use rio_format::{Classes, LENGTH_LIMIT, Value, Values};
 use rio_write::{write_object, written_length};
 use std::alloc::Global;
 

@@ -10,12 +10,12 @@ ghost use Rattle.rio_fill.specs.Room.{branches_reserved, entry_given, may_add, w
 use crate::branch::OpenBranch;
 use crate::flags::{Flags, full_flags, open_flags};
 use crate::prepared::{Prepared, prepare_row};
-use rio_key::Basket;
 use rio_entry::EntryFault;
+use rio_format::{Classes, Values};
+use rio_key::Basket;
 use rio_leaf::BranchDef;
 use rio_num::NoMemory;
 use rio_tree::{BasketAt, Baskets, Branch, Branches, TreeHead};
-use rio_format::{Classes, Values};
 use std::alloc::Global;
 use std::marker::Model;
 

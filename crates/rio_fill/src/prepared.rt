@@ -11,11 +11,11 @@ ghost use Rattle.rio_fill.specs.Prepare.{HaveNumbers, part_written, row_prepared
 ghost use Rattle.rio_fill.specs.Parts.{PutsPart, whole_row};
 
 use crate::branch::OpenBranch;
-use rio_key::Entries;
 use rio_entry::{EntryFault, Numbers, leaf_counts, note_leaves, value_count, write_entry};
+use rio_format::{Classes, Value, Values, copy};
+use rio_key::Entries;
 use rio_leaf::{BranchDef, Leaf, Shape, leaves_of};
 use rio_num::{Bytes, NoMemory};
-use rio_format::{Classes, Value, Values, copy};
 use std::alloc::Global;
 
 /// The bytes of a row, one entry for each branch.

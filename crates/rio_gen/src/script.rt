@@ -3,10 +3,10 @@ ghost use Rattle.std.specs.Prelude.{◌≡◌, ◌<◌, [], ◌∷◌, IfOk, OnE
 ghost use Rattle.rio_gen.specs.Generated.{TakesFirst, branch_name, fills_from, gen_script, generated_branch, generated_branches, generated_row, generated_value, integer_leaf, tree_command, tree_name};
 ghost use Rattle.rio_machine.specs.declared.command.Command.TheVariants.{Fill as FillOf};
 
+use rio_format::{Value, Values};
 use rio_leaf::{BranchDef, BranchDefs, Dim, Leaf, Leaves, Shape};
 use rio_machine::{Command, Commands};
 use rio_num::{Name, NoMemory};
-use rio_format::{Value, Values};
 use std::alloc::Global;
 use std::marker::Model;
 

@@ -6,8 +6,8 @@ ghost use Rattle.rio_num.specs.Room.{with_more};
 ghost use Rattle.rio_gen.specs.Summary.{sum_of_row, summary_text};
 ghost use Rattle.rio_format.specs.{Accessors.{number_in}, declared.value.Value.{out-Value}};
 
-use rio_num::{Bytes, NoMemory};
 use rio_format::Value;
+use rio_num::{Bytes, NoMemory};
 
 /// A generated file: how many entries it was asked for, how many baskets its tree has, and the sum of all integers in the
 /// rows of the tree.

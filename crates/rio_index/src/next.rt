@@ -8,9 +8,9 @@ ghost use Rattle.rio_index.specs.Scan.{broken_at, entry_among, held_entry, read_
 
 use crate::lane::{Held, Lane};
 use rio_entry::{EntryFault, RowPart, TreeCounters, broken_branch, read_row};
+use rio_format::{Classes, Values};
 use rio_num::NoMemory;
 use rio_tree::Branch;
-use rio_format::{Classes, Values};
 use std::alloc::Global;
 
 // The bytes of the entry in the basket that is held.

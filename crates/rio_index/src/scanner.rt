@@ -5,11 +5,11 @@ ghost use Rattle.rio_index.specs.Scan.{empty_lane, lane_at};
 use crate::lane::{Held, Lane};
 use crate::next::{check_next, is_memory, read_next};
 use crate::search::{entry_count, first_entry, first_wanted};
-use rio_key::StoredBasket;
 use rio_entry::{EntryFault, TreeCounters};
+use rio_format::{Classes, Values};
+use rio_key::StoredBasket;
 use rio_num::NoMemory;
 use rio_tree::{Branch, BranchRefusal, TreeHead};
-use rio_format::{Classes, Values};
 use std::alloc::Global;
 use std::marker::Model;
 

@@ -4,8 +4,8 @@ ghost use Rattle.rio_format.specs.{ClassList.{class_with, classes_of, described_
 
 use crate::members::{bases_of, members_of};
 use crate::parts::{base_parts, items_in, list_of, parts_behind, signed_of, text_of, unsigned_of};
-use rio_num::{Name, NoMemory};
 use rio_format::{ClassDef, Classes, Part, Value, part_of};
+use rio_num::{Name, NoMemory};
 use std::alloc::Global;
 
 // The parts of the TObjArray behind the pointer to a class's elements.

@@ -3,8 +3,8 @@ ghost use Rattle.std.specs.Prelude.{◌≡◌, IfOk};
 ghost use Rattle.rio_format.specs.{Elements.{counted_kind, fixed_kind, kind_of, own_kind, primitive_by_code, without_star}, declared.kind.Kind.TheVariants.{Inline as InlineKind, Pointer as PointerKind}};
 
 use crate::element::Element;
-use rio_num::{Name, Names, NoMemory};
 use rio_format::{Kind, Prim};
+use rio_num::{Name, Names, NoMemory};
 use std::alloc::Global;
 
 // The single values that a code stands for.

@@ -6,8 +6,8 @@ ghost use Rattle.rio_format.specs.Elements.{base_of_element, bases_of, counters_
 
 use crate::element::{Element, element_of};
 use crate::kind::kind_of;
-use rio_num::{Name, Names, NoMemory};
 use rio_format::{Base, Bases, Kind, Member, Members, Value};
+use rio_num::{Name, Names, NoMemory};
 use std::alloc::Global;
 
 // The version in which the class has the base that an element is, if it is one.

@@ -6,8 +6,8 @@ ghost use Rattle.rio_format.specs.declared.value.Value.{Value as Spelled};
 ghost use Rattle.rio_read.specs.Reading.{Answers};
 
 use crate::classes::classes_of;
-use rio_format::{Classes, ObjFault};
 use rio_describe::description_classes;
+use rio_format::{Classes, ObjFault};
 use rio_read::read_object;
 use std::alloc::Global;
 

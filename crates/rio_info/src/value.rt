@@ -6,7 +6,10 @@ ghost use Rattle.rio_format.specs.WrittenList.{class_links, class_list_value, cl
 
 use crate::element_value::element_object;
 use rio_describe::{Element, JudgedLists, base_element, member_element};
-use rio_format::{Base, ClassDef, ClassLists, Member, PartList, Value, Values, array_object, list_object, titled_object};
+use rio_format::{
+    Base, ClassDef, ClassLists, Member, PartList, Value, Values, array_object, list_object,
+    titled_object,
+};
 use rio_num::{Boxed, Name, NoMemory};
 use std::alloc::Global;
 

@@ -16,10 +16,10 @@ use crate::put::stored_object;
 use crate::stop::Stop;
 use crate::{StoredObject, StoredObjects, Work};
 use rio_dir::KeyTable;
+use rio_format::Classes;
 use rio_machine::{BATCH_LIMIT, ITEM_LIMIT, PutItem, Refusal};
 use rio_num::NoMemory;
 use rio_tree_table::TreeTable;
-use rio_format::Classes;
 use std::alloc::Global;
 use std::collections::BTreeMap;
 

@@ -13,11 +13,11 @@ ghost use Rattle.rio_judge.specs.Stops.{GoesByState, GoesByTests};
 
 use crate::stop::Stop;
 use crate::{NewClass, Work};
-use rio_model::CLASS_LIMIT;
+use rio_format::{ClassDef, Classes, LENGTH_LIMIT};
 use rio_info::info_length_with;
 use rio_machine::Refusal;
+use rio_model::CLASS_LIMIT;
 use rio_registry::{Registry, is_reserved_name};
-use rio_format::{ClassDef, Classes, LENGTH_LIMIT};
 use std::alloc::Global;
 
 // The names of classes that come with the format are taken.

@@ -15,11 +15,11 @@ use crate::stop::Stop;
 use crate::tree::{fill_work, make_work, save_work, scan_work};
 use crate::{AnyWork, Judged, JudgedWithTrees, TreeWork, Work};
 use rio_dir::KeyTable;
+use rio_format::Classes;
 use rio_machine::{Command, Refusal};
 use rio_num::NoMemory;
 use rio_registry::Registry;
 use rio_tree_table::TreeTable;
-use rio_format::Classes;
 use std::alloc::Global;
 
 /// Why the state refuses the command, or what the command is to do. Of several refusals the one of

@@ -8,8 +8,8 @@ ghost use Rattle.rio_judge.specs.Stops.{row_tests};
 ghost use Rattle.rio_judge.specs.Trees.{IsRowJudgement};
 
 use crate::NewRow;
-use rio_machine::{CYCLE_LIMIT, EntryFault, LIST_LIMIT, Refusal};
 use rio_format::{DEPTH_LIMIT, Value, depth, longest_list};
+use rio_machine::{CYCLE_LIMIT, EntryFault, LIST_LIMIT, Refusal};
 
 fn is_too_deep(value: &Value) -> bool
     ensures { result ≡ is_too_deep value.now }

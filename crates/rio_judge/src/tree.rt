@@ -23,13 +23,13 @@ use crate::key::is_list_name;
 use crate::stop::Stop;
 use crate::{NewRow, NewTree, TreeWork};
 use rio_dir::KeyTable;
+use rio_format::{Base, ClassDef, Classes, Values};
 use rio_key::KeyHead;
 use rio_leaf::{BranchDef, BranchDefs, Shape};
 use rio_machine::{BRANCH_LIMIT, CYCLE_LIMIT, ITEM_LIMIT, LEAF_LIMIT, Refusal};
 use rio_model::built_in_version;
 use rio_num::Name;
 use rio_tree_table::TreeTable;
-use rio_format::{Base, ClassDef, Classes, Values};
 use rio_valtext::resolved_row;
 use std::alloc::Global;
 

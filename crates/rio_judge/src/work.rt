@@ -1,9 +1,9 @@
 //! What commands are to do.
+use rio_format::{Base, ClassDef, Value, Values};
 use rio_key::KeyHead;
 use rio_leaf::BranchDefs;
 use rio_machine::Refusal;
 use rio_num::{Items, Name};
-use rio_format::{Base, ClassDef, Value, Values};
 
 /// An object that is to be stored.
 #[derive(Drop)]

@@ -7,4 +7,5 @@ pub mod SingleLaws
 pub mod StatedLaws
 pub mod StepLaws
 pub mod VersionLaws
+pub mod WayLaws
 pub mod WrapLaws

@@ -1,3 +1,4 @@
 pub mod Converting
+pub mod Lacking
 pub mod Laws
 pub mod Versions

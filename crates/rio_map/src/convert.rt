@@ -5,8 +5,8 @@ ghost use Rattle.rio_model.specs.Mapping.{is_list_of, is_object_value, is_pointe
 ghost use Rattle.rio_format.specs.{declared.kind.Kind.TheVariants.{Text as Texts}, declared.value.Value.{out-Value}};
 
 use crate::single::{list_as, single_as};
-use rio_num::NoMemory;
 use rio_format::{Kind, Prim, Value, copy};
+use rio_num::NoMemory;
 use std::alloc::Global;
 
 fn single_in(from: Prim, to: &Kind, value: &Value) -> Option<Value>

@@ -5,8 +5,8 @@ ghost use Rattle.std.specs.Option.{option_map};
 ghost use Rattle.rio_model.specs.Mapping.{bits_as, converts, each_as, is_numeric, list_as, number_as, number_of_kind, single_as};
 ghost use Rattle.rio_format.specs.{declared.kind.Primitive.TheVariants.{Bool as Truth, I64}, declared.value.Value.{Int, List as Items, out-Value}};
 
-use rio_num::NoMemory;
 use rio_format::{Prim, Value, Values};
+use rio_num::NoMemory;
 use std::alloc::Global;
 
 fn low_8(number: i128) -> u8

@@ -12,8 +12,15 @@ ghost use Rattle.rio_map.specs.Converting.{flat_as};
 ghost use Rattle.rio_map.specs.Versions.{Maps, asked_in, base_found, bases_as, behind, converted, has_base, is_base_part, is_nameless, kind_in, made_of, mapped_in, mapping_in, mapping_of_part, member_found, members_as, part_found};
 
 use crate::convert::{flat_as, stays};
+<<<<<<< HEAD
 use crate::zero::{kind_zero, object_with, zero_of_class};
-use rio_format::{Base, ClassDef, Classes, Kind, Member, Part, Parts, Value, Values, copy, part_with};
+=======
+use crate::memory::Memory;
+use crate::zero::{object_with, zero_object, zero_of_kind};
+>>>>>>> 47a9b7f4b167b4457fd9cccf89f0db12359ab047
+use rio_format::{
+    Base, ClassDef, Classes, Kind, Member, Part, Parts, Value, Values, copy, part_with,
+};
 use rio_model::{MapFault, built_in_version};
 use rio_num::{Boxed, Name};
 use std::alloc::Global;
@@ -113,20 +120,20 @@ fn or_changed(alloc: Global, name: &[u8], value: Option<Value>) -> Result<Value,
     }
 }
 
-fn base_zero(alloc: Global, classes: &Classes, base: &Base) -> Result<Value, MapFault>
+fn base_zero(memory: &mut Memory, classes: &Classes, base: &Base) -> Result<Value, MapFault>
     ensures { let zero = zero_of_class classes.now base.now.name in
         Maps result (or_changed base.now.name zero) }
 {
-    let zero = zero_of_class(alloc, classes, base.name.as_slice())?;
-    or_changed(alloc, base.name.as_slice(), zero)
+    let zero = zero_object(memory, classes, base.name.as_slice())?;
+    or_changed(memory.alloc, base.name.as_slice(), zero)
 }
 
-fn member_zero(alloc: Global, classes: &Classes, member: &Member) -> Result<Value, MapFault>
+fn member_zero(memory: &mut Memory, classes: &Classes, member: &Member) -> Result<Value, MapFault>
     ensures { let zero = kind_zero (zero_of_class classes.now) member.now.kind in
         Maps result (or_changed member.now.name zero) }
 {
-    let zero = kind_zero(alloc, classes, &member.kind)?;
-    or_changed(alloc, member.name.as_slice(), zero)
+    let zero = zero_of_kind(memory, classes, &member.kind)?;
+    or_changed(memory.alloc, member.name.as_slice(), zero)
 }
 
 // A value of this kind, without objects in it, in the kind of the member.
@@ -155,7 +162,7 @@ fn copied(alloc: Global, value: &Value) -> Result<Value, MapFault>
 // The value, with the objects of the class in the asked version.
 #[cycle(mapped)]
 fn mapped(
-    alloc: Global,
+    memory: &mut Memory,
     classes: &Classes,
     asked: &ClassDef,
     value: &Value,
@@ -170,14 +177,14 @@ fn mapped(
         | Value::Text(_)
         | Value::Null
         | Value::Back(_)
-        | Value::Opaque { .. } => copied(alloc, value),
-        Value::List(items) => list_mapped(alloc, classes, asked, items.as_slice()),
+        | Value::Opaque { .. } => copied(memory.alloc, value),
+        Value::List(items) => list_mapped(memory, classes, asked, items.as_slice()),
         Value::Object {
             class,
             version,
             parts,
         } => object_as(
-            alloc,
+            memory,
             classes,
             asked,
             class.as_slice(),
@@ -185,14 +192,14 @@ fn mapped(
             parts.as_slice(),
         ),
         Value::Pointed { label, object } => {
-            pointed_mapped(alloc, classes, asked, *label, object.get())
+            pointed_mapped(memory, classes, asked, *label, object.get())
         }
     }
 }
 
 #[cycle(mapped)]
 fn list_mapped(
-    alloc: Global,
+    memory: &mut Memory,
     classes: &Classes,
     asked: &ClassDef,
     items: &[Value],
@@ -200,7 +207,7 @@ fn list_mapped(
     ensures { let found = items_mapped (map (mapping_in classes.now asked.now) items.now) in
         Maps result (made_of Items found) }
 {
-    match items_mapped(alloc, classes, asked, items) {
+    match items_mapped(memory, classes, asked, items) {
         Ok(items) => Ok(Value::List(items)),
         Err(fault) => Err(fault),
     }
@@ -208,16 +215,16 @@ fn list_mapped(
 
 #[cycle(mapped)]
 fn items_mapped(
-    alloc: Global,
+    memory: &mut Memory,
     classes: &Classes,
     asked: &ClassDef,
     items: &[Value],
 ) -> Result<Values, MapFault>
     ensures { Maps result (items_mapped (map (mapping_in classes.now asked.now) items.now)) }
 {
-    let mut done = Values::new(alloc);
+    let mut done = Values::new(memory.alloc);
     for item in items {
-        done.push(mapped(alloc, classes, asked, item)?)?;
+        done.push(mapped(memory, classes, asked, item)?)?;
     }
     Ok(done)
 }
@@ -234,7 +241,7 @@ fn pointed(alloc: Global, label: u32, object: Value) -> Result<Value, MapFault>
 
 #[cycle(mapped)]
 fn pointed_mapped(
-    alloc: Global,
+    memory: &mut Memory,
     classes: &Classes,
     asked: &ClassDef,
     label: u32,
@@ -243,8 +250,8 @@ fn pointed_mapped(
     ensures { let found = mapped_in classes.now asked.now object.now in
         Maps result (made_of (Pointed label) found) }
 {
-    match mapped(alloc, classes, asked, object) {
-        Ok(object) => pointed(alloc, label, object),
+    match mapped(memory, classes, asked, object) {
+        Ok(object) => pointed(memory.alloc, label, object),
         Err(fault) => Err(fault),
     }
 }
@@ -259,7 +266,7 @@ fn object_of(alloc: Global, class: &[u8], version: i32, parts: Parts) -> Result<
 // An object of the class in the asked version, any other one as it is with what is within it mapped.
 #[cycle(mapped)]
 fn object_as(
-    alloc: Global,
+    memory: &mut Memory,
     classes: &Classes,
     asked: &ClassDef,
     class: &[u8],
@@ -270,11 +277,11 @@ fn object_as(
         Maps result (object_as classes.now (asked_in asked.now) class.now version within) }
 {
     if class != asked.name.as_slice() {
-        return object_kept(alloc, classes, asked, class, version, parts);
+        return object_kept(memory, classes, asked, class, version, parts);
     }
     let old = classes.find(class, version);
-    match object_mapped(alloc, classes, asked, old, parts) {
-        Ok(parts) => object_of(alloc, class, asked.version, parts),
+    match object_mapped(memory, classes, asked, old, parts) {
+        Ok(parts) => object_of(memory.alloc, class, asked.version, parts),
         Err(fault) => Err(fault),
     }
 }
@@ -282,7 +289,7 @@ fn object_as(
 // An object of another class.
 #[cycle(mapped)]
 fn object_kept(
-    alloc: Global,
+    memory: &mut Memory,
     classes: &Classes,
     asked: &ClassDef,
     class: &[u8],
@@ -293,15 +300,15 @@ fn object_kept(
         let found = each_mapped (λ p. p.name) (λ p. p.value.mapped) within in
         Maps result (made_of (Object class.now version) found) }
 {
-    match parts_mapped(alloc, classes, asked, parts) {
-        Ok(parts) => object_of(alloc, class, version, parts),
+    match parts_mapped(memory, classes, asked, parts) {
+        Ok(parts) => object_of(memory.alloc, class, version, parts),
         Err(fault) => Err(fault),
     }
 }
 
 #[cycle(mapped)]
 fn parts_mapped(
-    alloc: Global,
+    memory: &mut Memory,
     classes: &Classes,
     asked: &ClassDef,
     parts: &[Part],
@@ -309,10 +316,10 @@ fn parts_mapped(
     ensures { let within = map (mapping_of_part classes.now asked.now) parts.now in
         Maps result (each_mapped (λ p. p.name) (λ p. p.value.mapped) within) }
 {
-    let mut done = Parts::new(alloc);
+    let mut done = Parts::new(memory.alloc);
     for part in parts {
-        let value = mapped(alloc, classes, asked, &part.value)?;
-        done.push(part_with(alloc, part.name.as_slice(), value)?)?;
+        let value = mapped(memory, classes, asked, &part.value)?;
+        done.push(part_with(memory.alloc, part.name.as_slice(), value)?)?;
     }
     Ok(done)
 }
@@ -322,7 +329,7 @@ fn parts_mapped(
 // The parts that an object with these parts, whose class is described so, has in the asked version.
 #[cycle(mapped)]
 fn object_mapped(
-    alloc: Global,
+    memory: &mut Memory,
     classes: &Classes,
     asked: &ClassDef,
     old: Option<&ClassDef>,
@@ -332,11 +339,11 @@ fn object_mapped(
         Maps result (object_mapped classes.now (option_copied old.entry) asked.now within) }
 {
     let bases = described_bases(old);
-    match bases_mapped(alloc, classes, asked, bases, parts) {
+    match bases_mapped(memory, classes, asked, bases, parts) {
         Ok(front) => {
             let members = described_members(old);
             let skipped = base_parts(bases, parts);
-            members_after(alloc, classes, asked, members, skipped, parts, front)
+            members_after(memory, classes, asked, members, skipped, parts, front)
         }
         Err(fault) => Err(fault),
     }
@@ -344,7 +351,7 @@ fn object_mapped(
 
 #[cycle(mapped)]
 fn bases_mapped(
-    alloc: Global,
+    memory: &mut Memory,
     classes: &Classes,
     asked: &ClassDef,
     bases: &[Base],
@@ -353,10 +360,10 @@ fn bases_mapped(
     ensures { let within = map (mapping_of_part classes.now asked.now) parts.now in
         Maps result (bases_as classes.now bases.now asked.now within) }
 {
-    let mut done = Parts::new(alloc);
+    let mut done = Parts::new(memory.alloc);
     for base in asked.bases.as_slice() {
-        let value = base_mapped(alloc, classes, asked, bases, parts, base)?;
-        done.push(part_with(alloc, &[], value)?)?;
+        let value = base_mapped(memory, classes, asked, bases, parts, base)?;
+        done.push(part_with(memory.alloc, &[], value)?)?;
     }
     Ok(done)
 }
@@ -364,7 +371,7 @@ fn bases_mapped(
 // The members, after the parts that are there. Those of the object come after so many parts, which are its bases.
 #[cycle(mapped)]
 fn members_after(
-    alloc: Global,
+    memory: &mut Memory,
     classes: &Classes,
     asked: &ClassDef,
     members: &[Member],
@@ -378,8 +385,8 @@ fn members_after(
 {
     let mut done = front;
     for member in asked.members.as_slice() {
-        let value = member_mapped(alloc, classes, asked, members, bases, parts, member)?;
-        done.push(part_with(alloc, member.name.as_slice(), value)?)?;
+        let value = member_mapped(memory, classes, asked, members, bases, parts, member)?;
+        done.push(part_with(memory.alloc, member.name.as_slice(), value)?)?;
     }
     Ok(done)
 }
@@ -387,7 +394,7 @@ fn members_after(
 // The base, which is zero where there is none.
 #[cycle(mapped)]
 fn base_mapped(
-    alloc: Global,
+    memory: &mut Memory,
     classes: &Classes,
     asked: &ClassDef,
     bases: &[Base],
@@ -398,9 +405,9 @@ fn base_mapped(
         let part = base_part_of bases.now within base.now.name in
         Maps result (base_mapped classes.now base.now part) }
 {
-    match base_found(alloc, classes, asked, bases, parts, base) {
+    match base_found(memory, classes, asked, bases, parts, base) {
         Ok(Some(value)) => Ok(value),
-        Ok(None) => base_zero(alloc, classes, base),
+        Ok(None) => base_zero(memory, classes, base),
         Err(fault) => Err(fault),
     }
 }
@@ -408,7 +415,7 @@ fn base_mapped(
 // The member, which is zero where there is none.
 #[cycle(mapped)]
 fn member_mapped(
-    alloc: Global,
+    memory: &mut Memory,
     classes: &Classes,
     asked: &ClassDef,
     members: &[Member],
@@ -420,9 +427,9 @@ fn member_mapped(
         let part = member_part_of members.now within member.now.name in
         Maps result (member_mapped classes.now member.now part) }
 {
-    match member_found(alloc, classes, asked, members, bases, parts, member) {
+    match member_found(memory, classes, asked, members, bases, parts, member) {
         Ok(Some(value)) => Ok(value),
-        Ok(None) => member_zero(alloc, classes, member),
+        Ok(None) => member_zero(memory, classes, member),
         Err(fault) => Err(fault),
     }
 }
@@ -430,7 +437,7 @@ fn member_mapped(
 // The base, if the object has it.
 #[cycle(mapped)]
 fn base_found(
-    alloc: Global,
+    memory: &mut Memory,
     classes: &Classes,
     asked: &ClassDef,
     bases: &[Base],
@@ -445,7 +452,7 @@ fn base_found(
     }
     for part in parts {
         if is_base_part(base.name.as_slice(), part) {
-            return Ok(Some(mapped(alloc, classes, asked, &part.value)?));
+            return Ok(Some(mapped(memory, classes, asked, &part.value)?));
         }
     }
     Ok(None)
@@ -454,7 +461,7 @@ fn base_found(
 // The member, if the object has it.
 #[cycle(mapped)]
 fn member_found(
-    alloc: Global,
+    memory: &mut Memory,
     classes: &Classes,
     asked: &ClassDef,
     members: &[Member],
@@ -466,7 +473,7 @@ fn member_found(
         Maps result (member_found had members.now (drop bases parts.now) member.now) }
 {
     match kind_in(members, member.name.as_slice()) {
-        Some(from) => part_found(alloc, classes, asked, bases, parts, member, from),
+        Some(from) => part_found(memory, classes, asked, bases, parts, member, from),
         None => Ok(None),
     }
 }
@@ -474,7 +481,7 @@ fn member_found(
 // The part of the member's name after the bases, which is of this kind, in the kind of the member.
 #[cycle(mapped)]
 fn part_found(
-    alloc: Global,
+    memory: &mut Memory,
     classes: &Classes,
     asked: &ClassDef,
     bases: usize,
@@ -488,7 +495,7 @@ fn part_found(
     for k in bases..parts.len() {
         let part = &parts[k];
         if part.name.as_slice() == member.name.as_slice() {
-            return Ok(Some(converted(alloc, classes, asked, from, member, &part.value)?));
+            return Ok(Some(converted(memory, classes, asked, from, member, &part.value)?));
         }
     }
     Ok(None)
@@ -497,7 +504,7 @@ fn part_found(
 // A value of this kind in the kind of the member. Whether it is one is seen before what is within it.
 #[cycle(mapped)]
 fn converted(
-    alloc: Global,
+    memory: &mut Memory,
     classes: &Classes,
     asked: &ClassDef,
     from: &Kind,
@@ -508,9 +515,9 @@ fn converted(
         Maps result (converted had from.now member.now value.now) }
 {
     if stays(from, &member.kind, value) {
-        mapped(alloc, classes, asked, value)
+        mapped(memory, classes, asked, value)
     } else {
-        flat_converted(alloc, from, member, value)
+        flat_converted(memory.alloc, from, member, value)
     }
 }
 
@@ -545,7 +552,7 @@ pub fn as_version(
         return copied(alloc, value);
     }
     match classes.find(class, version) {
-        Some(asked) => mapped(alloc, classes, asked, value),
+        Some(asked) => mapped(&mut Memory::new(alloc), classes, asked, value),
         None => Err(MapFault::NoVersion),
     }
 }

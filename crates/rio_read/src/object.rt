@@ -14,7 +14,10 @@ use crate::builtin::{array_parts, list_parts, read_named_parts, read_obj_string_
 use crate::member::{link, read_counter};
 use crate::numbers::{read_count, read_counted, read_name, read_number, read_numbers, read_text};
 use crate::whole::{read_opaque, whole, whole_described};
-use rio_format::{Base, BodyKind, ClassDef, Classes, Counters, Form, Header, Kind, Member, ObjFault, ObjReader, Part, Parts, PointerWord, Prim, Value, Values, body_of, form_of, part_with};
+use rio_format::{
+    Base, BodyKind, ClassDef, Classes, Counters, Form, Header, Kind, Member, ObjFault, ObjReader,
+    Part, Parts, PointerWord, Prim, Value, Values, body_of, form_of, part_with,
+};
 use rio_num::Boxed;
 use std::alloc::Global;
 

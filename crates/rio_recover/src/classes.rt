@@ -12,9 +12,9 @@ ghost use Rattle.rio_recover.specs.Keys.{StandsIn, record_end};
 
 use crate::RecoverFault;
 use crate::object::record_bytes;
-use rio_format::{Base, ClassDef, Classes, LENGTH_LIMIT, ObjFault};
 use rio_decl::is_stated;
 use rio_describe::tree_classes;
+use rio_format::{Base, ClassDef, Classes, LENGTH_LIMIT, ObjFault};
 use rio_host::Host;
 use rio_info::{info_length, read_info};
 use rio_key::KeyHead;

@@ -21,12 +21,12 @@ use crate::object::is_object;
 use crate::tree::{FileKeys, check_tree};
 use crate::trees::{TreeAt, Trees};
 use rio_dir::KeyTable;
+use rio_format::Classes;
 use rio_head::Reason;
 use rio_host::Host;
 use rio_key::KeyHead;
 use rio_num::{NoMemory, is_item};
 use rio_tree::TreeHead;
-use rio_format::Classes;
 use std::alloc::Global;
 
 /// What a key of a file's items is.

@@ -11,11 +11,13 @@ ghost use Rattle.rio_recover.specs.Causes.{IsRecoverCause, Obtains};
 ghost use Rattle.rio_recover.specs.Keys.{StandsIn, keyed, record_end};
 
 use crate::RecoverFault;
-use rio_machine::LIST_LIMIT;
-use rio_format::{Classes, DEPTH_LIMIT, LENGTH_LIMIT, ObjFault, ObjReader, Value, depth, longest_list};
 use rio_fit::{can_be_put, fits};
+use rio_format::{
+    Classes, DEPTH_LIMIT, LENGTH_LIMIT, ObjFault, ObjReader, Value, depth, longest_list,
+};
 use rio_host::{Host, bytes_at};
 use rio_key::KeyHead;
+use rio_machine::LIST_LIMIT;
 use rio_num::NoMemory;
 use rio_read::read_next;
 use std::alloc::Global;

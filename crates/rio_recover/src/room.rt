@@ -14,10 +14,10 @@ ghost use Rattle.rio_recover.specs.Trees.{places_of};
 
 use crate::RecoverFault;
 use crate::trees::TreeAt;
-use rio_machine::ITEM_LIMIT;
 use rio_dir::KeyTable;
 use rio_head::Reason;
 use rio_key::KeyHead;
+use rio_machine::ITEM_LIMIT;
 use rio_state::{END_LIMIT, close_length};
 use rio_tree::TreeHead;
 

@@ -12,10 +12,10 @@ ghost use Rattle.rio_recover.specs.Causes.{IsRecoverCause, Obtains};
 
 use crate::RecoverFault;
 use rio_entry::are_rows_saved;
+use rio_format::Classes;
 use rio_host::Host;
 use rio_key::KeyHead;
 use rio_tree::TreeHead;
-use rio_format::Classes;
 use std::alloc::Global;
 
 /// Whether the rows that the header names are there, and fit its branches; the header was read from a value. The keys are

@@ -4,9 +4,9 @@ ghost use Rattle.rio_model.specs.Declaring.{IsClosed, declare_fault, limit_fault
 
 use crate::names::knows_all;
 use crate::reach::holds_itself;
+use rio_format::{ClassDef, Classes};
 use rio_model::{CLASS_LIMIT, DeclareFault};
 use rio_num::NoMemory;
-use rio_format::{ClassDef, Classes};
 
 /// The first rule about classes that the declaration breaks, if it breaks one.
 pub(crate) fn rule_fault(

@@ -2,8 +2,8 @@
 ghost use Rattle.std.specs.Prelude.{◌≡◌, map, IfOk};
 ghost use Rattle.rio_model.specs.Declaring.{base_declared, declared, newest_version};
 
-use rio_num::NoMemory;
 use rio_format::{Base, Bases, ClassDef, Classes};
+use rio_num::NoMemory;
 
 // The greatest version of a declared class, and 1 for a built-in one.
 fn newest_version(classes: &Classes, name: &[u8]) -> i32

@@ -7,8 +7,8 @@ ghost use Rattle.rio_registry.specs.Reaching.{ComesTo, IsGrown};
 
 use crate::names::{is_built_in_base, is_declared};
 use crate::reached::ReachedNames;
-use rio_num::NoMemory;
 use rio_format::{Base, ClassDef, Classes, Kind, Member};
+use rio_num::NoMemory;
 
 fn add_bases<'a>(names: &mut ReachedNames<'a>, bases: &'a [Base]) -> Result<(), NoMemory>
     ensures { OnOk result (IsGrown names.old names.new

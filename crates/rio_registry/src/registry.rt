@@ -1,8 +1,8 @@
 //! The declared classes.
 use crate::judge::{declare_fault, rule_fault};
 use crate::newest::with_newest_bases;
-use rio_model::DeclareFault;
 use rio_format::{ClassDef, Classes};
+use rio_model::DeclareFault;
 use std::alloc::Global;
 use std::marker::Model;
 

@@ -8,10 +8,10 @@ ghost use Rattle.rio_reply.specs.Scanned.{row_fault_line, row_fault_text, row_li
 ghost use Rattle.rio_model.specs.Mapping.{as_version};
 
 use rio_entry::RowFault;
+use rio_format::{Base, Classes, Value, Values};
 use rio_map::as_version;
 use rio_model::MapFault;
 use rio_num::{Bytes, NoMemory};
-use rio_format::{Base, Classes, Value, Values};
 use rio_valtext::print_value;
 use std::alloc::Global;
 

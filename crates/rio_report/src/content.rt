@@ -7,11 +7,11 @@ ghost use Rattle.rio_close.specs.Causes.{IsCallCause};
 
 use crate::tree_line::{put_tree, read_stored_tree};
 use rio_close::{ReportFault, read_up_to};
+use rio_format::Classes;
 use rio_host::Host;
 use rio_key::KeyHead;
 use rio_num::Bytes;
 use rio_reply::{put_item, put_stored};
-use rio_format::Classes;
 use std::alloc::Global;
 
 /// Whether the key is a tree's.

@@ -7,9 +7,9 @@ ghost use Rattle.rio_close.specs.Causes.{AnyKind, IsHostCauseOf, IsOwnCauseOf};
 ghost use Rattle.rio_close.specs.Opens.{Opens, OpensTold};
 ghost use Rattle.rio_report.specs.Described.{info_in};
 
-use rio_format::{Classes, ObjFault};
 use rio_close::{ReportFault, read_closed, read_record};
 use rio_dir::Closed;
+use rio_format::{Classes, ObjFault};
 use rio_head::FileFault;
 use rio_host::Host;
 use rio_info::read_info;

@@ -13,10 +13,10 @@ use crate::described::{Described, open_described};
 use crate::item::{Item, found_item};
 use crate::pieces::{gather_classes, gather_keys, say_held, say_key, say_refusal};
 use rio_close::ReportFault;
+use rio_format::Classes;
 use rio_host::Host;
 use rio_key::KeyHead;
 use rio_num::Bytes;
-use rio_format::Classes;
 use std::alloc::Global;
 
 // Says all classes and then all keys.

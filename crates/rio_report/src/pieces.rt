@@ -11,11 +11,11 @@ ghost use Rattle.rio_report.specs.PiecesCause.{IsPiecesCauseOf};
 use crate::content::put_stored_line;
 use rio_close::ReportFault;
 use rio_decl::print_class;
+use rio_format::{ClassDef, Classes};
 use rio_host::Host;
 use rio_key::KeyHead;
 use rio_machine::{Refusal, print_refusal};
 use rio_num::{Bytes, NoMemory};
-use rio_format::{ClassDef, Classes};
 use std::alloc::Global;
 
 // So many bytes are said as soon as they are gathered.

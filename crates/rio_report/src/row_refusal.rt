@@ -19,13 +19,13 @@ use crate::scan_rows::are_kept;
 use crate::versions::seen_row;
 use rio_close::ReportFault;
 use rio_entry::{BranchRefusals, FileTree, Lane, empty_lanes, read_tree_row};
+use rio_format::{Base, ClassDef, Classes, Values};
 use rio_host::Host;
 use rio_machine::Refusal;
 use rio_map::MapFault;
 use rio_model::built_in_version;
 use rio_num::NoMemory;
 use rio_tree::BranchRefusal;
-use rio_format::{Base, ClassDef, Classes, Values};
 use std::alloc::Global;
 
 fn is_named(class: &ClassDef, name: &[u8]) -> bool

@@ -24,13 +24,13 @@ use crate::scan_text::{put_count, put_refused_lines};
 use crate::tree_line::read_stored_tree;
 use rio_close::ReportFault;
 use rio_entry::{BranchRefusals, FileTree, TreeCounters, empty_lanes, find_refusals};
+use rio_format::{Base, Classes};
 use rio_host::Host;
 use rio_key::KeyHead;
 use rio_machine::{Refusal, print_refusal};
 use rio_num::{Bytes, NoMemory};
 use rio_reply::put_item;
 use rio_tree::TreeHead;
-use rio_format::{Base, Classes};
 use std::alloc::Global;
 
 /// The key of the tree of the name, of the greatest cycle, the first of several.

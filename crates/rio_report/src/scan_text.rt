@@ -14,13 +14,13 @@ ghost use Rattle.rio_format.specs.declared.value.Value.{List as Listed};
 
 use crate::row_form::RowForm;
 use crate::versions::seen_row;
-use rio_key::BasketFault;
 use rio_csv::print_row;
 use rio_entry::{Lane, RowFault};
+use rio_format::{Classes, Value, Values};
+use rio_key::BasketFault;
 use rio_map::MapFault;
 use rio_num::{Bytes, NoMemory};
 use rio_tree::{Branch, BranchRefusal};
-use rio_format::{Classes, Value, Values};
 use rio_valtext::print_value;
 use std::alloc::Global;
 

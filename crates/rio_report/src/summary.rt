@@ -16,12 +16,12 @@ use crate::scan::tree_key;
 use crate::tree_line::read_stored_tree;
 use rio_close::ReportFault;
 use rio_entry::{FileTree, TreeCounters, empty_lanes, read_saved_row};
+use rio_format::{ClassDef, Classes, Value, Values};
 use rio_gen::add_integers;
 use rio_host::Host;
 use rio_key::KeyHead;
 use rio_num::NoMemory;
 use rio_tree::{Branch, TreeHead};
-use rio_format::{ClassDef, Classes, Value, Values};
 use std::alloc::Global;
 
 // So many classes a class list describes first, those of trees.

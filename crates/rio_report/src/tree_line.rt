@@ -10,8 +10,8 @@ ghost use Rattle.rio_tree.specs.declared.fault.TreeFault.TheVariants.{MissingMem
 ghost use Rattle.rio_tree.specs.Header.{tree_head_in};
 ghost use Rattle.rio_report.specs.TreeTexts.{IsFoundTree, TreeOrText};
 
-use rio_format::{Classes, ObjFault, Value};
 use rio_close::{ReportFault, read_up_to};
+use rio_format::{Classes, ObjFault, Value};
 use rio_host::Host;
 use rio_key::KeyHead;
 use rio_num::{Bytes, NoMemory};

@@ -8,9 +8,9 @@ ghost use Rattle.rio_entry.specs.BranchRows.{read_values};
 ghost use Rattle.rio_report.specs.Versions.{seen_behind, value_seen_in};
 
 use crate::row_form::RowForm;
+use rio_format::{Classes, Value, Values, copy};
 use rio_map::{MapFault, as_version};
 use rio_tree::BranchRefusal;
-use rio_format::{Classes, Value, Values, copy};
 use std::alloc::Global;
 
 // The value with the objects of the class in the version that is asked, or an equal one.

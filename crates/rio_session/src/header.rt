@@ -9,9 +9,9 @@ ghost use Rattle.rio_tree.specs.WrittenLaws.{stated_defs};
 ghost use Rattle.rio_tree.specs.WrittenTree.{tree_value_of};
 
 use crate::place::key_length;
-use rio_key::FIRST_PLACE;
 use rio_chain::{KeyWords, NewRecord, new_record};
 use rio_describe::tree_classes;
+use rio_key::FIRST_PLACE;
 use rio_num::{Bytes, Name, NoMemory};
 use rio_tree::{TreeHead, tree_value};
 use rio_write::write_object;

@@ -7,10 +7,10 @@ ghost use Rattle.rio_effect.specs.TreeRecords.{new_branch, new_head, version_in_
 ghost use Rattle.rio_session.specs.Counters.{counts_leaf, is_branch_of_leaf};
 ghost use Rattle.rio_tree.specs.WrittenLaws.{branch_of_leaf, counting_branches};
 
+use rio_format::Classes;
 use rio_leaf::{BranchDef, Dim, Leaf, Shape, leaves_of};
 use rio_num::NoMemory;
 use rio_tree::{Baskets, Branch, BranchNumbers, Branches, TreeHead, has_offsets};
-use rio_format::Classes;
 use std::alloc::Global;
 
 // The version that the header gives the class of a branch: the newest.

@@ -10,11 +10,11 @@ ghost use Rattle.rio_state.specs.Closing.{is_full};
 ghost use Rattle.rio_session.specs.Puts.{IsFullFor, stored_words};
 
 use rio_chain::{Chain, KeyWords, NewRecord, PlanFault, new_record};
+use rio_format::{Classes, Value};
 use rio_judge::StoredObject;
 use rio_key::{FIRST_PLACE, key_length_of};
 use rio_num::{Name, NoMemory};
 use rio_state::END_LIMIT;
-use rio_format::{Classes, Value};
 use rio_write::write_object;
 use std::alloc::Global;
 

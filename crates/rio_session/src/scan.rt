@@ -3,12 +3,12 @@ use crate::open_tree::OpenTree;
 use crate::scan_rows::scan_text;
 use crate::{Replies, Session, SessionFault};
 use rio_chain::ReadFault;
+use rio_format::Base;
 use rio_host::Host;
 use rio_key::KeyHead;
 use rio_machine::Outcome;
 use rio_model::MapFault;
 use rio_num::Bytes;
-use rio_format::Base;
 
 /// The text of a scan, or why the rows can't be had in the version.
 type ScanText = Result<Bytes, MapFault>;

@@ -17,20 +17,20 @@ ghost use Rattle.rio_session.specs.HeldBaskets.{AreLanes, AreStored, HoldEntry, 
 ghost use Rattle.rio_machine.specs.State.{Row};
 ghost use Rattle.rio_session.specs.Scans.{AreRowsOf, Scans, entries_of_row, entry_held, entry_within, line_behind, open_entry, row_held, row_of_entries, stored_entry};
 
-use rio_key::{Basket, BasketFault, StoredBasket};
 use rio_chain::{Chain, ReadFault};
 use rio_entry::{
     EntryFault, FoundBasket, Lane, LeafCounters, RowFault, RowPart, basket_from, empty_lanes,
     fault_held, read_row,
 };
 use rio_fill::Filler;
+use rio_format::{Base, Classes, Values};
 use rio_host::Host;
+use rio_key::{Basket, BasketFault, StoredBasket};
 use rio_leaf::BranchDef;
 use rio_model::MapFault;
 use rio_num::{Bytes, NoMemory};
 use rio_reply::{put_row_fault, put_row_line, put_row_line_as, put_scan_start};
 use rio_tree::{BasketAt, has_offsets};
-use rio_format::{Base, Classes, Values};
 use std::alloc::Global;
 
 /// A tree whose rows are read: the chain of its file, the classes, and its branches with their counters.

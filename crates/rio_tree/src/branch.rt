@@ -16,9 +16,9 @@ use crate::met::{MetTable, name_said};
 use crate::stored::listed_baskets;
 use crate::unread::Unread;
 use crate::{Baskets, Branch, BranchNumbers, BranchRefusal, Branches};
+use rio_format::Value;
 use rio_leaf::{BranchDef, Leaf, Leaves, Shape, is_counted_dim};
 use rio_num::{Name, NoMemory};
-use rio_format::Value;
 use std::alloc::Global;
 
 // A branch that is refused before its leaves are known.

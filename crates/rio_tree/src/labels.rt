@@ -5,8 +5,8 @@ ghost use Rattle.std.specs.Option.{option_copied};
 ghost use Rattle.rio_tree.specs.Labels.{label_in, labelled_in, labels_in, object_behind, or_labelled};
 ghost use Rattle.rio_tree.specs.Tables.{labels_of};
 
-use rio_num::NoMemory;
 use rio_format::{Part, Value};
+use rio_num::NoMemory;
 use std::alloc::Global;
 use std::collections::HashMap;
 

@@ -6,8 +6,8 @@ ghost use Rattle.rio_tree.specs.Tables.{labels_of};
 
 use crate::labels::LabelTable;
 use crate::members::{i32_member, name_member, truth_member};
-use rio_leaf::Dim;
 use rio_format::Value;
+use rio_leaf::Dim;
 use std::marker::Model;
 
 /// What a leaf says that has all members that are needed: its name, its letter, its length, and the label of the leaf

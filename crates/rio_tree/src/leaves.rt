@@ -12,9 +12,9 @@ use crate::leaf::{LeafSaid, leaf_at_pointer, least_one, uncounted_dim};
 use crate::met::{MetLeaf, MetTable};
 use crate::unread::Unread;
 use crate::{BranchNumbers, BranchRefusal, Branches};
+use rio_format::Value;
 use rio_leaf::{Dim, Leaf, Leaves};
 use rio_num::{Name, NoMemory};
-use rio_format::Value;
 use std::alloc::Global;
 use std::collections::BTreeSet;
 

@@ -8,9 +8,9 @@ use crate::Branches;
 use crate::labels::{LabelTable, label_in};
 use crate::leaf::{is_plain_number, leaf_said};
 use crate::members::name_member;
+use rio_format::Value;
 use rio_leaf::Shape;
 use rio_num::NoMemory;
-use rio_format::Value;
 use std::alloc::Global;
 use std::collections::HashMap;
 

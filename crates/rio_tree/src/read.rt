@@ -11,8 +11,8 @@ use crate::labels::LabelTable;
 use crate::members::{i64_member, pointers_member};
 use crate::met::MetTable;
 use crate::{Branches, TreeFault, TreeHead};
-use rio_num::{Name, NoMemory};
 use rio_format::Value;
+use rio_num::{Name, NoMemory};
 use std::alloc::Global;
 
 fn entries_member(value: &Value) -> Option<u64>

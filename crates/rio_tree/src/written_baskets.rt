@@ -4,8 +4,8 @@ ghost use Rattle.rio_tree.specs.WrittenBaskets.{number_of_basket};
 ghost use Rattle.rio_tree.specs.WrittenTree.{basket_numbers};
 
 use crate::BasketAt;
-use rio_num::NoMemory;
 use rio_format::{Value, Values};
+use rio_num::NoMemory;
 use std::alloc::Global;
 
 /// A number of a basket.

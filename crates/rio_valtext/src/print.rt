@@ -6,8 +6,8 @@ ghost use Rattle.rio_num.specs.Room.{with_more};
 ghost use Rattle.rio_model.specs.Lists.{separated};
 ghost use Rattle.rio_model.specs.ValueText.{between_braces, bits_text, class_text, label_text, may_be_base, part_text, printed_part, printed_value, text_of_value, truth_text};
 
-use rio_num::{Bytes, NoMemory};
 use rio_format::{Part, Value};
+use rio_num::{Bytes, NoMemory};
 
 fn put_bits32(text: &mut Bytes, bits: u32) -> Result<(), NoMemory>
     ensures { OnOk result (text.new.bytes ≡ text.old.bytes ++ bits_text 4 bits) }

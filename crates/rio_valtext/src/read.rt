@@ -15,9 +15,9 @@ ghost use Rattle.rio_token.specs.Words.{bits_of, number_of};
 ghost use Rattle.rio_token.specs.Marks.{closing_brace, closing_bracket};
 ghost use Rattle.rio_model.specs.ValueGrammar.{bracket_limit, class_version_at, enclosed_at, listed, marked_value_at, number_or, bits_value, object_at, opens_object, part_at, pointer_at, row_at, text_value_at, value_and_end, value_in_text, value_in, values_at, word_value, word_value_at, worded};
 
+use rio_format::{Part, Parts, Value, Values};
 use rio_num::{Boxed, Name, NoMemory, is_name};
 use rio_token::{Bits, TextFault, Token, Tokens, parse_bits, parse_number};
-use rio_format::{Part, Parts, Value, Values};
 use std::alloc::Global;
 
 /// How many brackets may stand within one another.

@@ -6,7 +6,9 @@ ghost use Rattle.rio_format.specs.{declared.value.Value.{List as Items, Object, 
 ghost use Rattle.rio_model.specs.Resolving.{ResolvedHasVersions, ResolvedStays, base_version, each_resolved, is_known_version, meant_version, newest_known, object_resolved, resolved, resolved_row, resolved_version, resolving_of, resolving_of_part};
 ghost use Rattle.rio_valtext.specs.Resolves.{Resolves};
 
-use rio_format::{Base, Body, BodyKind, Classes, Part, Parts, Value, Values, copy, declared_body, is_headed};
+use rio_format::{
+    Base, Body, BodyKind, Classes, Part, Parts, Value, Values, copy, declared_body, is_headed,
+};
 use rio_model::{built_in_version, newest_known};
 use rio_num::{Boxed, Name, NoMemory};
 use std::alloc::Global;

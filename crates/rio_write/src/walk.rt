@@ -7,7 +7,10 @@ ghost use Rattle.rio_write.specs.Writing.{part_writing};
 
 use crate::numbers::{bits_16, write_bool, write_count, write_int};
 use crate::sink::Sink;
-use rio_format::{Body, BodyKind, Classes, Fields, Form, Part, Prim, Slot, SlotKind, Value, body_fields, declared_body, form_of};
+use rio_format::{
+    Body, BodyKind, Classes, Fields, Form, Part, Prim, Slot, SlotKind, Value, body_fields,
+    declared_body, form_of,
+};
 use rio_num::{Names, NoMemory};
 use std::alloc::Global;
 

@@ -1,6 +1,6 @@
 //! A class in a version, as a word of the command line names it.
-use rio_num::{Name, NoMemory};
 use rio_format::Base;
+use rio_num::{Name, NoMemory};
 use std::alloc::Global;
 use std::marker::Model;
 

@@ -11,8 +11,6 @@ mod hand;
 mod header;
 mod images;
 mod import;
-mod limit;
-mod many;
 mod parts;
 mod pen;
 mod recover;

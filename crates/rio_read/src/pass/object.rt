@@ -13,7 +13,10 @@ use super::plain::{
     pass_array, pass_bare, pass_base, pass_counter, pass_named, pass_obj_string, pass_opaque,
 };
 use crate::numbers::read_count;
-use rio_format::{Base, BodyKind, ClassDef, Classes, Counters, Form, Header, Kind, Member, ObjFault, ObjReader, PointerWord, Prim, body_of, form_of};
+use rio_format::{
+    Base, BodyKind, ClassDef, Classes, Counters, Form, Header, Kind, Member, ObjFault, ObjReader,
+    PointerWord, Prim, body_of, form_of,
+};
 use std::alloc::Global;
 
 /// Passes over an object of the class.

@@ -61,6 +61,10 @@ fn has_element(alloc: Global, holds: Holds, class: &str, code: i32) -> Result<bo
 #[test]
 fn elements_of_classes_that_are_known(rt: HostRuntime) {
     for (holds, class, code) in &MEMBERS {
-        assert!(rt; has_element(rt.alloc(), *holds, class, *code) == Ok(true), "{}", class);
+        assert!(rt;
+            has_element(rt.alloc(), *holds, class, *code) == Ok(true),
+            "{}",
+            class
+        );
     }
 }

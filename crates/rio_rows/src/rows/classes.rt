@@ -1,6 +1,6 @@
 //! Classes of the rows, and what their text is compared with.
-use rio_num::{Bytes, Name, NoMemory};
 use rio_format::{Base, Bases, ClassDef, Classes, Kind, Member, Members, Prim};
+use rio_num::{Bytes, Name, NoMemory};
 use std::alloc::Global;
 
 /// What a member holds.

@@ -13,7 +13,13 @@ fn array(alloc: Global) -> Result<Value, ObjFault> {
     if bytes.len() > 100 {
         return Err(ObjFault::NoMemory);
     }
-    read_object(alloc, &Classes::new(alloc), b"TObjArray", bytes.as_slice(), 34)
+    read_object(
+        alloc,
+        &Classes::new(alloc),
+        b"TObjArray",
+        bytes.as_slice(),
+        34,
+    )
 }
 
 fn is_same(copied: &Value, value: &Value) -> bool {

@@ -4,9 +4,9 @@ mod numbered;
 use crate::rows::classes::{ClassRow, Holds, classes_of, name_of};
 use crate::rows::leaf_lists::branch_of_row;
 use rio_entry::{EntryFault, check_entry, entry_numbers, read_entry};
+use rio_format::{Classes, Prim, Value, Values};
 use rio_leaf::{BranchDef, LeafFault, Shape};
 use rio_num::{Name, NoMemory};
-use rio_format::{Classes, Prim, Value, Values};
 use std::alloc::Global;
 
 // The classes `Node 1 { val: i32, next: Node* }` and `C 1 { n: i32, v: f32[n] }`.

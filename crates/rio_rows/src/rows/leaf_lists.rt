@@ -76,6 +76,10 @@ fn tells_which_leaves_are_the_same(rt: HostRuntime) {
     }
     for text in &DIFFERENT {
         assert!(rt; !list_the_same(rt.alloc(), text, "n/I:v[n]/F"), "{}", text);
-        assert!(rt; are_branches_copied(rt.alloc(), text, "n/I:v[n]/F"), "{}", text);
+        assert!(rt;
+            are_branches_copied(rt.alloc(), text, "n/I:v[n]/F"),
+            "{}",
+            text
+        );
     }
 }

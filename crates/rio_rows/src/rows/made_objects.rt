@@ -1,6 +1,8 @@
 //! Objects that are made of their parts.
 use crate::rows::classes::{is_text, name_of};
-use rio_format::{Part, PartList, Value, Values, array_object, list_object, part_with, titled_object};
+use rio_format::{
+    Part, PartList, Value, Values, array_object, list_object, part_with, titled_object,
+};
 use rio_num::{Bytes, NoMemory};
 use rio_valtext::print_value;
 use std::alloc::Global;

@@ -1,8 +1,8 @@
 //! Declarations that no script has, and what each of them is answered.
 use crate::rows::classes::{bare_class, name_of};
+use rio_format::{Base, ClassDef, Kind, Member, Members};
 use rio_num::{Name, NoMemory};
 use rio_registry::{DeclareFault, Registry};
-use rio_format::{Base, ClassDef, Kind, Member, Members};
 use std::alloc::Global;
 
 // A class and the answer to its declaration. Its parts are bases `:NAME`, members by value `=NAME` and pointers `*NAME`.

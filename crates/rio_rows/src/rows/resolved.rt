@@ -1,7 +1,7 @@
 //! Values of classes that aren't known: they come back as they were.
 use crate::rows::classes::{ClassRow, classes_of, is_text};
-use rio_num::{Bytes, NoMemory};
 use rio_format::{Classes, Value};
+use rio_num::{Bytes, NoMemory};
 use rio_valtext::{ResolveFault, TextFault, print_value, read_value, resolve};
 use std::alloc::Global;
 

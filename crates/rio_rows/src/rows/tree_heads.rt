@@ -3,11 +3,11 @@ mod leaves;
 mod lists;
 mod slots;
 
+use rio_format::Value;
 use rio_leaf::{Dim, Leaf, Shape};
 use rio_num::{Bytes, NoMemory};
 use rio_tree::{BasketAt, Branch, TreeFault, TreeHead, read_tree};
 use rio_valtext::read_value;
-use rio_format::Value;
 use std::alloc::Global;
 
 /// A leaf: the pointer to it with its class, and its members. A member without text is lacking.

@@ -152,8 +152,7 @@ fn host_of_row(alloc: Global, row: &Row) -> Result<ChangingHost, NoMemory> {
 
 fn is_said(alloc: Global, row: &Row) -> Result<bool, NoMemory> {
     let mut host = host_of_row(alloc, row)?;
-    Ok(ran(alloc, row.words, &mut host, b"")? == Status::Done
-        && host.said.as_slice() == row.said)
+    Ok(ran(alloc, row.words, &mut host, b"")? == Status::Done && host.said.as_slice() == row.said)
 }
 
 #[test]

@@ -2,8 +2,8 @@
 use super::{CLASSES, branch_of, counts_of};
 use crate::rows::classes::classes_of;
 use rio_entry::entry_numbers;
-use rio_leaf::BranchDef;
 use rio_format::{Classes, Value, Values};
+use rio_leaf::BranchDef;
 use std::alloc::Global;
 
 // The leaves, or the class; what counts each leaf in an earlier branch; the bytes; and the numbers.
@@ -25,12 +25,7 @@ static ROWS: [Row; 7] = [
         leaves: "a/b:b/s:c/i:d/l",
         counts: &[],
         bytes: b"\xff\xff\xff\xff\xff\xff\xff\xff\xff\xff\xff\xff\xff\xff\xff",
-        numbers: &[
-            255,
-            65_535,
-            4_294_967_295,
-            18_446_744_073_709_551_615,
-        ],
+        numbers: &[255, 65_535, 4_294_967_295, 18_446_744_073_709_551_615],
     },
     Row {
         leaves: "f/F:d/D:o/O:x/S",
