@@ -9,6 +9,7 @@ record.py state FILE <CLASSES              a closed file without keys that descr
 record.py list FILE HEX [CLASS HEX]        a closed file whose class list has these data, the first byte at 64; without keys, or with
                                            an object as above
 record.py data FILE NAME                   prints the data of each record of the name, in hexadecimal digits
+record.py places FILE                      prints the place and the length of each record with its name, and of each gap
 
 A KIND is as in a declaration, or `counter`, or `other` and a code, or `class:` and a name; after a `/` it may have a title. A
 checksum is hexadecimal, 12345678 if there is none, or `own`, that of the declaration. Words may have quotes as in a shell."""
@@ -72,7 +73,7 @@ def described(line):
 
 class HandMade(File):
     def record(self, kind, name, title, data, length):
-        """A record of these data, which begin that far behind its first byte. Nothing follows them."""
+        """A record of these data, which begin that far from its first byte. Nothing follows them."""
         tail = text(kind) + text(name) + text(title)
         head = i32(length + len(data)) + u16(4) + u32(len(data)) + u32(1) + u16(length) + u16(1)
         head += self.wide(self.place) + self.wide(100) + tail
@@ -97,17 +98,19 @@ class OneList(HandMade):
         return self.record('TList', 'StreamerInfo', 'Doubly linked list', self.data, 64)[1]
 
 
-def records(path):
-    """The name and the data of each record, from the first on, over the gaps."""
+def segments(path):
+    """The place and the bytes of each record, from the first on, and of each gap."""
     with open(path, 'rb') as file:
         image = file.read()
     place = 100
     while (length := int.from_bytes(image[place:place + 4], 'big', signed=True)) != 0:
-        record = image[place:place + abs(length)]
-        if length > 0:
-            name = 27 + record[26]
-            yield record[name + 1:name + 1 + record[name]], record[int.from_bytes(record[14:16], 'big'):]
+        yield place, length > 0, image[place:place + abs(length)]
         place += abs(length)
+
+
+def name_of(record):
+    name = 27 + record[26]
+    return record[name + 1:name + 1 + record[name]].decode()
 
 
 def main(words):
@@ -123,9 +126,12 @@ def main(words):
             file.object(words[3], bytes.fromhex(words[4]))
         file.close([])
     elif len(words) == 3 and words[0] == 'data':
-        for name, data in records(words[1]):
-            if name == words[2].encode():
-                print(data.hex().upper())
+        for _, is_record, it in segments(words[1]):
+            if is_record and name_of(it) == words[2]:
+                print(it[int.from_bytes(it[14:16], 'big'):].hex().upper())
+    elif len(words) == 2 and words[0] == 'places':
+        for place, is_record, it in segments(words[1]):
+            print(place, len(it), name_of(it) if is_record else 'gap')
     else:
         sys.exit(__doc__)
 

@@ -1,156 +1,208 @@
-//! Keys and lists of heads, and the heads of baskets.
-
-mod read;
-
+//! Keys that are read or refused, whose first byte has the place 252, and the head of a basket behind its key.
+use crate::rows::hex::hex_bytes;
 use rio_key::{
-    BasketFront, BasketHead, KeyFault, KeyHead, read_basket_front, read_basket_head, read_heads,
-    read_key, write_basket_head, write_key,
+    BasketFront, BasketHead, KeyFault, KeyHead, ListFault, read_basket_front, read_heads, read_key,
 };
-use rio_num::{Bytes, Name, NoMemory};
 use std::alloc::Global;
-use std::test::Fail;
 
-// The heads of the first record and of the free record of an empty file `a.root`.
-const FIRST: &[u8] =
-    b"\0\0\0\x6c\0\x04\0\0\0\x44\0\0\0\x01\0\x28\0\x01\0\0\0\x64\0\0\0\0\x05TFile\x06a.root\0";
+// The fields of a key of class `A`, named `b`, and its title.
+struct Row {
+    digits: &'static str,
+    nbytes: i32,
+    version: u16,
+    objlen: u32,
+    datime: u32,
+    keylen: u16,
+    cycle: u16,
+    seek: u64,
+    title: &'static [u8],
+}
 
-const FREE: &[u8] =
-    b"\0\0\0\x34\0\x04\0\0\0\x0c\0\0\0\x01\0\x28\0\x01\0\0\0\xfc\0\0\0\x64\x05TFile\x06a.root\0";
+static READ: [Row; 5] = [
+    // Places take four bytes up to version 1000, and eight above.
+    Row {
+        digits: "0000003C 03E8 00000014 00000001 0028 0001 FFFFFFFE 00000064 01 41 01 62 01 63",
+        nbytes: 60,
+        version: 1000,
+        objlen: 20,
+        datime: 1,
+        keylen: 40,
+        cycle: 1,
+        seek: 4_294_967_294,
+        title: b"c",
+    },
+    Row {
+        digits: "0000003C 03E9 00000014 00000001 0028 0001 000000012A05F200 0000000000000064 \
+                 01 41 01 62 01 63",
+        nbytes: 60,
+        version: 1001,
+        objlen: 20,
+        datime: 1,
+        keylen: 40,
+        cycle: 1,
+        seek: 5_000_000_000,
+        title: b"c",
+    },
+    // The greatest numbers. Nbytes alone has a sign.
+    Row {
+        digits: "7FFFFFFF 0004 FFFFFFFF FFFFFFFE FFFF FFFE 000000D0 00000064 01 41 01 62 01 63",
+        nbytes: 2_147_483_647,
+        version: 4,
+        objlen: 4_294_967_295,
+        datime: 4_294_967_294,
+        keylen: 65535,
+        cycle: 65534,
+        seek: 208,
+        title: b"c",
+    },
+    // The record ends with its key, and the key with its title.
+    Row {
+        digits: "00000020 0004 00000000 00000001 0020 0001 000000D0 00000064 01 41 01 62 01 63",
+        nbytes: 32,
+        version: 4,
+        objlen: 0,
+        datime: 1,
+        keylen: 32,
+        cycle: 1,
+        seek: 208,
+        title: b"c",
+    },
+    // The title has the long form, and no bytes.
+    Row {
+        digits: "00000023 0004 00000000 00000001 0023 0001 000000D0 00000064 01 41 01 62 \
+                 FF 00000000",
+        nbytes: 35,
+        version: 4,
+        objlen: 0,
+        datime: 1,
+        keylen: 35,
+        cycle: 1,
+        seek: 208,
+        title: b"",
+    },
+];
+
+static REFUSED: [(&str, KeyFault); 8] = [
+    // The record ends a byte before its key does, or before it begins.
+    (
+        "0000001F 0004 00000000 00000001 0020 0001 000000D0 00000064 01 41 01 62 01 63",
+        KeyFault::BadLength { place: 252 },
+    ),
+    (
+        "FFFFFFFF 0004 00000000 00000001 0020 0001 000000D0 00000064 01 41 01 62 01 63",
+        KeyFault::BadLength { place: 252 },
+    ),
+    // The key ends a byte before its title does.
+    (
+        "0000003C 0004 00000014 00000001 001F 0001 000000D0 00000064 01 41 01 62 01 63",
+        KeyFault::BadKeyLen { place: 252 },
+    ),
+    // Both.
+    (
+        "0000001E 0004 00000000 00000001 001F 0001 000000D0 00000064 01 41 01 62 01 63",
+        KeyFault::BadLength { place: 252 },
+    ),
+    // A title that isn't whole is told before the lengths are looked at.
+    (
+        "0000001E 0004 00000000 00000001 001F 0001 000000D0 00000064 01 41 01 62 02 63",
+        KeyFault::Short {
+            place: 282,
+            wanted: 3,
+        },
+    ),
+    // The length of a title isn't whole, and a title of two bytes with its length in the long form.
+    (
+        "0000003C 0004 00000014 00000001 0028 0001 000000D0 00000064 01 41 01 62 FF 000001",
+        KeyFault::Short {
+            place: 282,
+            wanted: 5,
+        },
+    ),
+    (
+        "0000003C 0004 00000014 00000001 0028 0001 000000D0 00000064 01 41 01 62 FF 00000002 63",
+        KeyFault::Short {
+            place: 282,
+            wanted: 7,
+        },
+    ),
+    // A place of eight bytes that isn't whole.
+    (
+        "0000003C 03E9 00000014 00000001 0028 0001 000000012A05F200 00000000000000",
+        KeyFault::Short {
+            place: 278,
+            wanted: 8,
+        },
+    ),
+];
+
+impl Row {
+    fn has_numbers(&self, key: &KeyHead) -> bool {
+        key.nbytes == self.nbytes
+            && key.version == self.version
+            && key.objlen == self.objlen
+            && key.datime == self.datime
+            && key.keylen == self.keylen
+            && key.cycle == self.cycle
+            && key.seek == self.seek
+            && key.pdir == 100
+    }
+
+    fn has(&self, key: &KeyHead) -> bool {
+        self.has_numbers(key)
+            && key.class.as_slice() == b"A".as_slice()
+            && key.name.as_slice() == b"b".as_slice()
+            && key.title.as_slice() == self.title
+    }
+}
+
+fn key_of(alloc: Global, digits: &str) -> Result<KeyHead, KeyFault> {
+    let bytes = hex_bytes(alloc, digits)?;
+    if bytes.len() > 100 {
+        return Err(KeyFault::NoMemory);
+    }
+    read_key(alloc, bytes.as_slice(), 252, 252)
+}
+
+fn is_read(alloc: Global, row: &Row) -> bool {
+    match key_of(alloc, row.digits) {
+        Ok(key) => row.has(&key),
+        Err(_) => false,
+    }
+}
+
+fn is_refused(alloc: Global, digits: &str, wanted: KeyFault) -> bool {
+    match key_of(alloc, digits) {
+        Ok(_) => false,
+        Err(fault) => fault == wanted,
+    }
+}
+
+#[test]
+fn reads_keys(rt: HostRuntime) {
+    for row in &READ {
+        assert!(rt; is_read(rt.alloc(), row), "{}", row.digits);
+    }
+    for (digits, fault) in &REFUSED {
+        assert!(rt; is_refused(rt.alloc(), digits, *fault), "{}", digits);
+    }
+}
+
+// The count of a key list is unsigned.
+#[test]
+fn refuses_a_list_without_its_heads(rt: HostRuntime) {
+    let fault = KeyFault::Short {
+        place: 256,
+        wanted: 4,
+    };
+    let head = Some(256);
+    let read = read_heads(rt.alloc(), b"\x80\0\0\x01", 252).err();
+    assert!(rt; read == Some(ListFault { head, fault }));
+}
 
 // The key of a basket, the last 19 of whose 59 bytes are the basket's head.
 const BASKET: &[u8] =
     b"\0\0\0\x47\0\x04\0\0\0\x0c\0\0\0\x01\0\x3b\0\x01\0\0\0\xfc\0\0\0\x64\x05TFile\x06a.root\0\
     \0\x03\0\0\x7d\0\0\0\0\x04\0\0\0\x03\0\0\0\x47\0";
-
-// The key of a record of the file, at 252.
-fn key_of(alloc: Global, nbytes: i32, keylen: u16) -> Result<KeyHead, NoMemory> {
-    let class = Name::from_slice(alloc, b"TFile")?;
-    let name = Name::from_slice(alloc, b"a.root")?;
-    Ok(KeyHead {
-        nbytes,
-        version: 4,
-        objlen: 12,
-        datime: 1,
-        keylen,
-        cycle: 1,
-        seek: 252,
-        pdir: 100,
-        class,
-        name,
-        title: Name::new(alloc),
-    })
-}
-
-fn is_read_as(alloc: Global, bytes: &[u8], key: &KeyHead) -> bool {
-    if bytes.len() > 1000 {
-        return false;
-    }
-    match read_key(alloc, bytes, 252, 252) {
-        Ok(read) => read == *key && !read.is_compressed(),
-        Err(_) => false,
-    }
-}
-
-// Whether another key than this one is read.
-fn is_another(alloc: Global, bytes: &[u8], key: &KeyHead) -> bool {
-    if bytes.len() > 1000 {
-        return false;
-    }
-    match read_key(alloc, bytes, 100, 100) {
-        Ok(read) => read != *key,
-        Err(_) => false,
-    }
-}
-
-// Whether the key of the free record is written so.
-fn is_written(alloc: Global) -> Result<bool, NoMemory> {
-    let key = KeyHead {
-        nbytes: 52,
-        version: 4,
-        objlen: 12,
-        datime: 1,
-        keylen: 40,
-        cycle: 1,
-        seek: 252,
-        pdir: 100,
-        class: Name::from_slice(alloc, b"TFile")?,
-        name: Name::from_slice(alloc, b"a.root")?,
-        title: Name::new(alloc),
-    };
-    let mut written = Bytes::new(alloc);
-    write_key(&key, &mut written)?;
-    Ok(written.as_slice() == FREE)
-}
-
-fn is_copied(key: &KeyHead) -> bool {
-    match key.copy() {
-        Ok(copy) => copy == *key,
-        Err(_) => false,
-    }
-}
-
-// Whether the key of the free record is read, written and copied, and the first record has another.
-fn are_read_and_written(alloc: Global) -> bool {
-    match key_of(alloc, 52, 40) {
-        Ok(key) => {
-            is_read_as(alloc, FREE, &key)
-                && matches!(is_written(alloc), Ok(true))
-                && is_copied(&key)
-                && is_another(alloc, FIRST, &key)
-        }
-        Err(_) => false,
-    }
-}
-
-#[test]
-fn reads_and_writes_keys(rt: HostRuntime) {
-    assert!(rt; are_read_and_written(rt.alloc()));
-}
-
-fn joined(alloc: Global, parts: &[&[u8]]) -> Result<Bytes, NoMemory> {
-    let mut bytes = Bytes::new(alloc);
-    for part in parts {
-        bytes.put(part)?;
-    }
-    Ok(bytes)
-}
-
-fn are_heads(alloc: Global, bytes: &[u8], places: [u64; 2]) -> bool {
-    if bytes.len() > 1000 {
-        return false;
-    }
-    match read_heads(alloc, bytes, 0) {
-        Ok(heads) => match heads.as_slice() {
-            [first, second] => first.seek == places[0] && second.seek == places[1],
-            _ => false,
-        },
-        Err(_) => false,
-    }
-}
-
-// Two heads, and bytes behind them.
-fn are_listed(alloc: Global) -> bool {
-    match joined(alloc, &[b"\0\0\0\x02", FIRST, FREE, b"more"]) {
-        Ok(bytes) => are_heads(alloc, bytes.as_slice(), [100, 252]),
-        Err(_) => false,
-    }
-}
-
-#[test]
-fn reads_a_list_of_heads(rt: HostRuntime) {
-    assert!(rt; are_listed(rt.alloc()));
-}
-
-#[test]
-fn tells_where_a_key_lacks_bytes(rt: HostRuntime) -> Result<(), Fail> {
-    let fault = KeyFault::Short {
-        place: 252,
-        wanted: 4,
-    };
-    let text = format!(in rt.alloc(); "{fault}")?;
-    assert_eq!(rt; text.as_str(), "fewer than 4 bytes are left at 252");
-    Ok(())
-}
 
 const BASKET_HEAD: BasketHead = BasketHead {
     version: 3,
@@ -161,20 +213,13 @@ const BASKET_HEAD: BasketHead = BasketHead {
     flag: 0,
 };
 
-fn is_front(alloc: Global, front: &BasketFront) -> bool {
-    match read_basket_front(alloc, BASKET, 252) {
-        Ok(read) => read == *front,
-        Err(_) => false,
-    }
+fn is_front(front: &BasketFront) -> bool {
+    front.head == BASKET_HEAD && front.place == 292 && front.key.keylen == 59
 }
 
 fn is_front_read(alloc: Global) -> bool {
-    match key_of(alloc, 71, 59) {
-        Ok(key) => {
-            let head = BASKET_HEAD;
-            let place = 292;
-            is_front(alloc, &BasketFront { key, head, place })
-        }
+    match read_basket_front(alloc, BASKET, 252) {
+        Ok(front) => is_front(&front),
         Err(_) => false,
     }
 }
@@ -182,27 +227,4 @@ fn is_front_read(alloc: Global) -> bool {
 #[test]
 fn reads_the_head_of_a_basket_behind_its_key(rt: HostRuntime) {
     assert!(rt; is_front_read(rt.alloc()));
-}
-
-// The head of a basket of three entries of 4 bytes each, behind a key of 57 bytes.
-const HEAD: &[u8] = b"\0\x03\0\0\x7d\0\0\0\0\x04\0\0\0\x03\0\0\0\x45\0";
-
-fn is_head_read_and_written(alloc: Global) -> bool {
-    let head = BasketHead {
-        version: 3,
-        buffer_size: 32000,
-        nev_size: 4,
-        nev: 3,
-        last: 69,
-        flag: 0,
-    };
-    let mut bytes = Bytes::new(alloc);
-    read_basket_head(HEAD, 38) == Ok(head)
-        && write_basket_head(&head, &mut bytes).is_ok()
-        && bytes.as_slice() == HEAD
-}
-
-#[test]
-fn reads_and_writes_the_head_of_a_basket(rt: HostRuntime) {
-    assert!(rt; is_head_read_and_written(rt.alloc()));
 }
