@@ -36,20 +36,11 @@ pub(super) fn host_of_copy(
     failing: &[u64],
 ) -> Result<MemHost, NoMemory> {
     let failing = Numbers::from_slice(alloc, failing)?;
-    Ok(MemHost::new(
-        alloc,
-        Bytes::from_slice(alloc, image)?,
-        failing,
-    ))
+    Ok(MemHost::new(alloc, Bytes::from_slice(alloc, image)?, failing))
 }
 
 // How a run ends. Nothing that is proved of it is needed by the examples, which only call it here.
-fn ended<H: Host, S: Source>(
-    alloc: Global,
-    words: &Words,
-    host: &mut H,
-    input: &mut S,
-) -> Status {
+fn ended<H: Host, S: Source>(alloc: Global, words: &Words, host: &mut H, input: &mut S) -> Status {
     run(alloc, words, host, input)
 }
 
