@@ -10,12 +10,8 @@ ghost use Rattle.rio_map.specs.Converting.{flat_as};
 ghost use Rattle.rio_map.specs.Versions.{Maps, asked_in, base_found, bases_as, behind, converted, has_base, is_base_part, is_nameless, kind_in, made_of, mapped_in, mapping_in, mapping_of_part, member_found, members_as, part_found};
 
 use crate::convert::{flat_as, stays};
-<<<<<<< HEAD
-use crate::zero::{kind_zero, object_with, zero_of_class};
-=======
 use crate::memory::Memory;
 use crate::zero::{object_with, zero_object, zero_of_kind};
->>>>>>> 47a9b7f4b167b4457fd9cccf89f0db12359ab047
 use rio_format::{
     Base, ClassDef, Classes, Kind, Member, Part, Parts, Value, Values, copy, part_with,
 };

@@ -3,11 +3,8 @@ ghost use Rattle.std.specs.Prelude.{◌≡◌, ◌+◌, IfOk, length, replicate}
 ghost use Rattle.rio_format.specs.{Slots.{fields_of}, declared.value.Value.{Object}};
 ghost use Rattle.rio_model.specs.Mapping.{kind_zero, object_zero, parts_zero, single_zero, slot_zero, zero_of_class, zero_version, zero_within};
 
-<<<<<<< HEAD
-=======
 use crate::lacking::lacks_zero;
 use crate::memory::Memory;
->>>>>>> 47a9b7f4b167b4457fd9cccf89f0db12359ab047
 use rio_format::{
     Classes, Fields, Kind, Parts, Prim, Slot, SlotKind, Value, Values, fields_of, is_headed,
     part_with, slot_of,

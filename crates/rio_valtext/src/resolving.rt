@@ -9,11 +9,7 @@ ghost use Rattle.rio_valtext.specs.Resolves.{Resolves};
 use rio_format::{
     Base, Body, BodyKind, Classes, Part, Parts, Value, Values, copy, declared_body, is_headed,
 };
-<<<<<<< HEAD
-use rio_model::{built_in_version, newest_known};
-=======
 use rio_model::{is_known_version, newest_known};
->>>>>>> 593c26816ed0d8ab7d0accba67faf56f34484c11
 use rio_num::{Boxed, Name, NoMemory};
 use std::alloc::Global;
 use thiserror::Error;
