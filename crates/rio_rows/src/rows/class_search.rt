@@ -1,7 +1,7 @@
 //! Classes by name, version and checksum, copies of classes, and lists of classes that are the same.
 use crate::rows::classes::{ClassRow, Holds, classes_of};
-use rio_num::NoMemory;
 use rio_format::{ClassDef, Classes};
+use rio_num::NoMemory;
 use std::alloc::Global;
 
 // The class `Node` in two versions, one of them twice.

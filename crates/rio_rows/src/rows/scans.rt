@@ -3,13 +3,13 @@ ghost use Rattle.std.specs.Prelude.{◌≡◌, IfOk};
 ghost use Rattle.rio_index.specs.Scan.{CanHold, CanScan};
 ghost use Rattle.rio_tree.specs.Index.{IsIndex};
 
-use rio_key::StoredBasket;
 use rio_entry::EntryFault;
+use rio_format::{Classes, Value, Values};
 use rio_index::Scanner;
+use rio_key::StoredBasket;
 use rio_leaf::{BranchDef, LeafFault, Leaves, Shape, read_leaves};
 use rio_num::{Name, NoMemory};
 use rio_tree::{BasketAt, Baskets, Branch, BranchNumbers, BranchRefusal, Branches, TreeHead};
-use rio_format::{Classes, Value, Values};
 use std::alloc::Global;
 
 fn at(first: u64) -> BasketAt

@@ -88,8 +88,7 @@ fn put_next(text: &mut Bytes, next: &str) -> bool {
         None | Some(b'{') | Some(b'[') => true,
         Some(_) => false,
     };
-    next.is_empty()
-        || ((begins || text.put(b", ").is_ok()) && text.put(next.as_bytes()).is_ok())
+    next.is_empty() || ((begins || text.put(b", ").is_ok()) && text.put(next.as_bytes()).is_ok())
 }
 
 fn put_all(text: &mut Bytes, all: &[&str]) -> bool {
@@ -179,9 +178,7 @@ fn put_number(text: &mut Bytes, before: &str, number: u64) -> bool {
 fn put_dim(text: &mut Bytes, dim: &Dim) -> bool {
     match dim {
         Dim::One => true,
-        Dim::Fixed(count) => {
-            put_number(text, "[", u64::from(*count)) && text.put(b"]").is_ok()
-        }
+        Dim::Fixed(count) => { put_number(text, "[", u64::from(*count)) && text.put(b"]").is_ok() }
         Dim::Counted { counter, times } => {
             text.put(b"[").is_ok()
                 && text.put(counter.as_slice()).is_ok()
