@@ -16,5 +16,6 @@ mod objects;
 mod passed;
 mod registry;
 mod resolved;
+mod scans;
 mod tokens;
 mod tree_heads;

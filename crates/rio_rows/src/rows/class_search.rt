@@ -1,6 +1,7 @@
 //! Classes by name, version and checksum, copies of classes, and lists of classes that are the same.
 use crate::rows::classes::{ClassRow, Holds, classes_of};
 use rio_format::{ClassDef, Classes};
+use rio_num::NoMemory;
 use std::alloc::Global;
 
 // The class `Node` in two versions, one of them twice.
@@ -45,18 +46,6 @@ fn finds(classes: &Classes) -> bool {
         && classes.find_sum(b"Node", 31).map(|class| class.version) == Some(3)
 }
 
-fn are_found(alloc: Global) -> bool {
-    match classes_of(alloc, &THREE) {
-        Ok(classes) => finds(&classes),
-        Err(_) => false,
-    }
-}
-
-#[test]
-fn finds_classes(rt: HostRuntime) {
-    assert!(rt; are_found(rt.alloc()));
-}
-
 fn is_copied(class: &ClassDef) -> bool {
     match class.copy() {
         Ok(copy) => copy == *class,
@@ -73,35 +62,17 @@ fn each_is_copied(classes: &Classes) -> bool {
     true
 }
 
-fn are_copied(alloc: Global) -> bool {
-    match classes_of(alloc, &THREE) {
-        Ok(classes) => each_is_copied(&classes),
-        Err(_) => false,
-    }
-}
-
-#[test]
-fn copies_classes(rt: HostRuntime) {
-    assert!(rt; are_copied(rt.alloc()));
-}
-
-// Whether the lists are the same, and no more where the last class is taken out of the first.
-fn differ_by_one(mut classes: Classes, others: &Classes) -> bool {
-    if classes != *others {
-        return false;
-    }
+// Whether they are found, copied, the same as others, and no more so where the last class is taken out.
+fn holds(alloc: Global) -> Result<bool, NoMemory> {
+    let mut classes = classes_of(alloc, &THREE)?;
+    let others = classes_of(alloc, &THREE)?;
+    let are_same = classes == others;
+    let are_found = finds(&classes) && each_is_copied(&classes);
     classes.remove_last();
-    classes != *others
-}
-
-fn are_compared(alloc: Global) -> bool {
-    match (classes_of(alloc, &THREE), classes_of(alloc, &THREE)) {
-        (Ok(classes), Ok(others)) => differ_by_one(classes, &others),
-        _ => false,
-    }
+    Ok(are_found && are_same && classes != others)
 }
 
 #[test]
-fn compares_lists_of_classes(rt: HostRuntime) {
-    assert!(rt; are_compared(rt.alloc()));
+fn finds_copies_and_compares_classes(rt: HostRuntime) {
+    assert!(rt; holds(rt.alloc()) == Ok(true));
 }

@@ -8,18 +8,16 @@ use std::alloc::Global;
 const ARRAY: &str = "40000030 0003 0001 00000000 00000000 02 6869 00000002 00000000 \
      40000011 FFFFFFFF 4E6F626F647900 40000002 0001 00000000";
 
-fn array(alloc: Global) -> Result<Value, ObjFault> {
-    let bytes = hex_bytes(alloc, ARRAY)?;
+fn array_in(alloc: Global, bytes: &[u8]) -> Result<Value, ObjFault> {
     if bytes.len() > 100 {
         return Err(ObjFault::NoMemory);
     }
-    read_object(
-        alloc,
-        &Classes::new(alloc),
-        b"TObjArray",
-        bytes.as_slice(),
-        34,
-    )
+    read_object(alloc, &Classes::new(alloc), b"TObjArray", bytes, 34)
+}
+
+fn array(alloc: Global) -> Result<Value, ObjFault> {
+    let bytes = hex_bytes(alloc, ARRAY)?;
+    array_in(alloc, bytes.as_slice())
 }
 
 fn is_same(copied: &Value, value: &Value) -> bool {

@@ -155,12 +155,16 @@ impl Row {
     }
 }
 
-fn key_of(alloc: Global, digits: &str) -> Result<KeyHead, KeyFault> {
-    let bytes = hex_bytes(alloc, digits)?;
+fn key_in(alloc: Global, bytes: &[u8]) -> Result<KeyHead, KeyFault> {
     if bytes.len() > 100 {
         return Err(KeyFault::NoMemory);
     }
-    read_key(alloc, bytes.as_slice(), 252, 252)
+    read_key(alloc, bytes, 252, 252)
+}
+
+fn key_of(alloc: Global, digits: &str) -> Result<KeyHead, KeyFault> {
+    let bytes = hex_bytes(alloc, digits)?;
+    key_in(alloc, bytes.as_slice())
 }
 
 fn is_read(alloc: Global, row: &Row) -> bool {

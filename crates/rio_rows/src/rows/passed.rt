@@ -21,12 +21,8 @@ fn end_of(alloc: Global, bytes: &'static [u8], class: &[u8]) -> Result<u64, ObjF
 }
 
 #[test]
-fn passes_over_a_string(rt: HostRuntime) {
+fn passes_over_objects_and_numbers(rt: HostRuntime) {
     assert_eq!(rt; end_of(rt.alloc(), STRING, b"TObjString"), Ok(120));
-}
-
-#[test]
-fn tells_where_an_object_is_cut(rt: HostRuntime) {
     assert_eq!(rt;
         end_of(rt.alloc(), &STRING[..19], b"TObjString"),
         Err(ObjFault::BadCount { place: 100 })
@@ -38,10 +34,6 @@ fn tells_where_an_object_is_cut(rt: HostRuntime) {
             wanted: 6
         })
     );
-}
-
-#[test]
-fn passes_over_numbers(rt: HostRuntime) {
     let mut reader = ObjReader::new(rt.alloc(), b"\0\x01\0\0\0\x02\0\0\0\x03\0\0", 100);
     assert!(rt; pass_number(&mut reader, Prim::U16).is_ok());
     assert!(rt; pass_numbers(&mut reader, Prim::F32, 2).is_ok());

@@ -5,7 +5,7 @@ mod slots;
 
 use rio_format::Value;
 use rio_leaf::{Dim, Leaf, Shape};
-use rio_num::{Bytes, NoMemory};
+use rio_num::Bytes;
 use rio_tree::{BasketAt, Branch, TreeFault, TreeHead, read_tree};
 use rio_valtext::read_value;
 use std::alloc::Global;
@@ -83,52 +83,38 @@ const ROW: Row = Row {
 // ---- the text of a header
 
 // The next member or item. One without text isn't there.
-fn put_next(text: &mut Bytes, next: &str) -> Result<(), NoMemory> {
-    if next.is_empty() {
-        return Ok(());
-    }
-    match text.as_slice().last() {
-        None | Some(b'{') | Some(b'[') => {}
-        Some(_) => text.put(b", ")?,
-    }
-    text.put(next.as_bytes())
+fn put_next(text: &mut Bytes, next: &str) -> bool {
+    let begins = match text.as_slice().last() {
+        None | Some(b'{') | Some(b'[') => true,
+        Some(_) => false,
+    };
+    next.is_empty() || ((begins || text.put(b", ").is_ok()) && text.put(next.as_bytes()).is_ok())
 }
 
-fn put_all(text: &mut Bytes, all: &[&str]) -> Result<(), NoMemory> {
+fn put_all(text: &mut Bytes, all: &[&str]) -> bool {
     for next in all {
-        put_next(text, next)?;
+        if !put_next(text, next) {
+            return false;
+        }
     }
-    Ok(())
+    true
 }
 
 impl LeafText {
-    fn put(&self, text: &mut Bytes) -> Result<(), NoMemory> {
-        put_next(text, self.pointer)?;
-        text.put(b"{")?;
-        put_all(text, &[self.name, self.length, self.unsigned, self.counter])?;
-        text.put(b"}")
+    fn put(&self, text: &mut Bytes) -> bool {
+        put_next(text, self.pointer)
+            && text.put(b"{").is_ok()
+            && put_all(text, &[self.name, self.length, self.unsigned, self.counter])
+            && text.put(b"}").is_ok()
     }
-}
-
-fn put_leaf_texts(text: &mut Bytes, leaves: &[LeafText]) -> Result<(), NoMemory> {
-    put_next(text, "fLeaves: TObjArray#3{items: [")?;
-    for leaf in leaves {
-        leaf.put(text)?;
-    }
-    text.put(b"]}")
 }
 
 impl BranchText {
-    fn put_leaves(&self, text: &mut Bytes) -> Result<(), NoMemory> {
-        match self.leaf_list {
-            Some(list) => put_next(text, list),
-            None => put_leaf_texts(text, self.leaves),
-        }
-    }
-
-    fn put(&self, text: &mut Bytes) -> Result<(), NoMemory> {
-        put_next(text, self.pointer)?;
-        text.put(b"{")?;
+    fn put_members(&self, text: &mut Bytes) -> bool {
+        let list = match self.leaf_list {
+            Some(list) => list,
+            None => "fLeaves: TObjArray#3{items: [",
+        };
         put_all(
             text,
             &[
@@ -141,191 +127,199 @@ impl BranchText {
                 self.firsts,
                 self.seeks,
                 self.class,
+                list,
             ],
-        )?;
-        self.put_leaves(text)?;
-        text.put(b"}")
+        )
     }
-}
 
-fn put_branch_texts(text: &mut Bytes, branches: &[BranchText]) -> Result<(), NoMemory> {
-    put_next(text, "fBranches: TObjArray#3{items: [")?;
-    for branch in branches {
-        branch.put(text)?;
+    fn put(&self, text: &mut Bytes) -> bool {
+        if !(put_next(text, self.pointer) && text.put(b"{").is_ok() && self.put_members(text)) {
+            return false;
+        }
+        if self.leaf_list.is_some() {
+            return text.put(b"}").is_ok();
+        }
+        for leaf in self.leaves {
+            if !leaf.put(text) {
+                return false;
+            }
+        }
+        text.put(b"]}}").is_ok()
     }
-    text.put(b"]}")
 }
 
 impl Row {
-    fn put_branches(&self, text: &mut Bytes) -> Result<(), NoMemory> {
-        match self.branch_list {
-            Some(list) => put_next(text, list),
-            None => put_branch_texts(text, self.branches),
+    fn put(&self, text: &mut Bytes) -> bool {
+        let list = match self.branch_list {
+            Some(list) => list,
+            None => "fBranches: TObjArray#3{items: [",
+        };
+        if !(text.put(b"TTree#120{").is_ok() && put_all(text, &[self.entries, list])) {
+            return false;
         }
-    }
-
-    fn text(&self, alloc: Global) -> Result<Bytes, NoMemory> {
-        let mut text = Bytes::from_slice(alloc, b"TTree#120{")?;
-        put_next(&mut text, self.entries)?;
-        self.put_branches(&mut text)?;
-        text.put(b"}")?;
-        Ok(text)
+        if self.branch_list.is_some() {
+            return text.put(b"}").is_ok();
+        }
+        for branch in self.branches {
+            if !branch.put(text) {
+                return false;
+            }
+        }
+        text.put(b"]}}").is_ok()
     }
 }
 
 // ---- what is read of it
 
-fn put_dim(text: &mut Bytes, dim: &Dim) -> Result<(), NoMemory> {
+fn put_number(text: &mut Bytes, before: &str, number: u64) -> bool {
+    text.put(before.as_bytes()).is_ok() && text.put_decimal(number).is_ok()
+}
+
+fn put_dim(text: &mut Bytes, dim: &Dim) -> bool {
     match dim {
-        Dim::One => Ok(()),
-        Dim::Fixed(count) => {
-            text.put(b"[")?;
-            text.put_decimal(u64::from(*count))?;
-            text.put(b"]")
-        }
+        Dim::One => true,
+        Dim::Fixed(count) => { put_number(text, "[", u64::from(*count)) && text.put(b"]").is_ok() }
         Dim::Counted { counter, times } => {
-            text.put(b"[")?;
-            text.put(counter.as_slice())?;
-            text.put(b"*")?;
-            text.put_decimal(u64::from(*times))?;
-            text.put(b"]")
+            text.put(b"[").is_ok()
+                && text.put(counter.as_slice()).is_ok()
+                && put_number(text, "*", u64::from(*times))
+                && text.put(b"]").is_ok()
         }
     }
 }
 
-fn put_leaf(text: &mut Bytes, leaf: &Leaf) -> Result<(), NoMemory> {
-    text.put(leaf.name.as_slice())?;
-    put_dim(text, &leaf.dim)?;
-    text.put(b"/")?;
-    text.push(leaf.letter)?;
-    text.put(b" ")
-}
-
-fn put_leaves(text: &mut Bytes, leaves: &[Leaf]) -> Result<(), NoMemory> {
+fn put_leaves(text: &mut Bytes, leaves: &[Leaf]) -> bool {
     for leaf in leaves {
-        put_leaf(text, leaf)?;
+        if !(text.put(leaf.name.as_slice()).is_ok()
+            && put_dim(text, &leaf.dim)
+            && text.put(b"/").is_ok()
+            && text.push(leaf.letter).is_ok()
+            && text.put(b" ").is_ok())
+        {
+            return false;
+        }
     }
-    Ok(())
+    true
 }
 
-fn put_shape(text: &mut Bytes, branch: &Branch) -> Result<(), NoMemory> {
+fn put_shape(text: &mut Bytes, branch: &Branch) -> bool {
     match &branch.def.shape {
         Shape::Leaves(leaves) => put_leaves(text, leaves.as_slice()),
         Shape::Class(class) => {
-            text.put(class.as_slice())?;
-            text.put(b"#")?;
-            text.put_integer(i128::from(branch.class_version))?;
-            text.put(b" ")
+            text.put(class.as_slice()).is_ok()
+                && text.put(b"#").is_ok()
+                && text.put_integer(i128::from(branch.class_version)).is_ok()
+                && text.put(b" ").is_ok()
         }
     }
 }
 
-// First entry, length and place.
-fn put_basket(text: &mut Bytes, basket: &BasketAt) -> Result<(), NoMemory> {
-    if text.as_slice().last() != Some(&b'[') {
-        text.put(b", ")?;
-    }
-    text.put_decimal(basket.first)?;
-    text.put(b" ")?;
-    text.put_decimal(u64::from(basket.bytes))?;
-    text.put(b" ")?;
-    text.put_decimal(basket.seek)
-}
-
-fn put_baskets(text: &mut Bytes, baskets: &[BasketAt]) -> Result<(), NoMemory> {
-    text.put(b"[")?;
+// First entry, length and place of each.
+fn put_baskets(text: &mut Bytes, baskets: &[BasketAt]) -> bool {
+    let mut before = " [";
     for basket in baskets {
-        put_basket(text, basket)?;
+        if !(put_number(text, before, basket.first)
+            && put_number(text, " ", u64::from(basket.bytes))
+            && put_number(text, " ", basket.seek))
+        {
+            return false;
+        }
+        before = ", ";
     }
-    text.put(b"]")
+    (!baskets.is_empty() || text.put(b" [").is_ok()) && text.put(b"]").is_ok()
 }
 
-fn put_counted_by(text: &mut Bytes, numbers: &[usize]) -> Result<(), NoMemory> {
+fn put_counted_by(text: &mut Bytes, numbers: &[usize]) -> bool {
     for number in numbers {
-        text.put(b" by ")?;
-        text.put_decimal(*number as u64)?;
+        if !put_number(text, " by ", *number as u64) {
+            return false;
+        }
     }
-    Ok(())
+    true
 }
 
 // Its name, its leaves or its class, its entries and its baskets, and whether they have offsets; the numbers of the branches
 // that count it; and why it is refused.
-fn put_branch(text: &mut Bytes, branch: &Branch) -> Result<(), NoMemory> {
-    text.put(branch.def.name.as_slice())?;
-    text.put(b" ")?;
-    put_shape(text, branch)?;
-    text.put_decimal(branch.entries)?;
-    text.put(b" ")?;
-    put_baskets(text, branch.baskets.as_slice())?;
-    if branch.offsets {
-        text.put(b" offsets")?;
-    }
-    put_counted_by(text, branch.counted_by.as_slice())?;
-    if let Some(why) = branch.refused {
-        text.put(b" ")?;
-        text.put(why.name())?;
-    }
-    text.put(b"\n")
+fn put_branch(text: &mut Bytes, branch: &Branch) -> bool {
+    let offsets = if branch.offsets { " offsets" } else { "" };
+    let refused = match branch.refused {
+        Some(why) => why.name(),
+        None => b"".as_slice(),
+    };
+    text.put(branch.def.name.as_slice()).is_ok()
+        && text.put(b" ").is_ok()
+        && put_shape(text, branch)
+        && text.put_decimal(branch.entries).is_ok()
+        && put_baskets(text, branch.baskets.as_slice())
+        && text.put(offsets.as_bytes()).is_ok()
+        && put_counted_by(text, branch.counted_by.as_slice())
+        && (refused.is_empty() || text.put(b" ").is_ok())
+        && text.put(refused).is_ok()
+        && text.put(b"\n").is_ok()
 }
 
-fn put_head(text: &mut Bytes, head: &TreeHead) -> Result<(), NoMemory> {
-    for branch in head.branches.as_slice() {
-        put_branch(text, branch)?;
-    }
-    Ok(())
-}
-
-fn said(alloc: Global, read: Result<TreeHead, TreeFault>) -> Result<Bytes, NoMemory> {
-    let mut text = Bytes::new(alloc);
+fn put_said(text: &mut Bytes, read: &Result<TreeHead, TreeFault>) -> bool {
     match read {
-        Ok(head) => put_head(&mut text, &head)?,
-        Err(TreeFault::MissingMember { member }) => {
-            text.put(b"MissingMember ")?;
-            text.put(member.as_slice())?;
+        Ok(head) => {
+            for branch in head.branches.as_slice() {
+                if !put_branch(text, branch) {
+                    return false;
+                }
+            }
+            true
         }
-        Err(TreeFault::NoMemory) => return Err(NoMemory),
+        Err(TreeFault::MissingMember { member }) => {
+            text.put(b"MissingMember ").is_ok() && text.put(member.as_slice()).is_ok()
+        }
+        Err(TreeFault::NoMemory) => false,
     }
-    Ok(text)
 }
 
 // ---- rows
 
-// The value of the whole text.
-fn value_of(alloc: Global, text: &[u8]) -> Option<Value> {
-    if text.len() >= 0x1_0000_0000 {
-        return None;
-    }
-    let (value, end) = read_value(alloc, text, 0).ok()?;
-    if end as usize == text.len() {
-        Some(value)
-    } else {
-        None
-    }
-}
-
 impl Row {
-    fn value(&self, alloc: Global) -> Option<Value> {
-        let text = self.text(alloc).ok()?;
-        value_of(alloc, text.as_slice())
+    fn is_read(&self, alloc: Global, value: &Value) -> bool {
+        let mut said = Bytes::new(alloc);
+        put_said(&mut said, &read_tree(alloc, value)) && said.as_slice() == self.said.as_bytes()
     }
 
-    fn is_said(&self, alloc: Global) -> bool {
-        match self.value(alloc) {
-            Some(value) => match said(alloc, read_tree(alloc, &value)) {
-                Ok(text) => text.as_slice() == self.said.as_bytes(),
-                Err(_) => false,
-            },
-            None => false,
+    fn is_read_of(&self, alloc: Global, text: &[u8]) -> bool {
+        if text.len() >= 0x1_0000_0000 {
+            return false;
         }
+        match read_value(alloc, text, 0) {
+            Ok((value, end)) => end as usize == text.len() && self.is_read(alloc, &value),
+            Err(_) => false,
+        }
+    }
+
+    fn holds(&self, alloc: Global) -> bool {
+        let mut text = Bytes::new(alloc);
+        self.put(&mut text) && self.is_read_of(alloc, text.as_slice())
     }
 }
 
 // The first row that is read otherwise.
 fn read_otherwise(alloc: Global, rows: &'static [Row]) -> Option<&'static str> {
     for row in rows {
-        if !row.is_said(alloc) {
+        if !row.holds(alloc) {
             return Some(row.name);
         }
     }
     None
+}
+
+#[test]
+fn reads_headers(rt: HostRuntime) {
+    assert_eq!(rt; read_otherwise(rt.alloc(), &lists::TREES), None);
+    assert_eq!(rt; read_otherwise(rt.alloc(), &lists::LISTS), None);
+    assert_eq!(rt; read_otherwise(rt.alloc(), &lists::MEMBERS), None);
+    assert_eq!(rt; read_otherwise(rt.alloc(), &lists::LEAF_MEMBERS), None);
+    assert_eq!(rt; read_otherwise(rt.alloc(), &leaves::ONE_BRANCH), None);
+    assert_eq!(rt; read_otherwise(rt.alloc(), &leaves::TWO_BRANCHES), None);
+    assert_eq!(rt; read_otherwise(rt.alloc(), &leaves::MORE_BRANCHES), None);
+    assert_eq!(rt; read_otherwise(rt.alloc(), &slots::READ), None);
+    assert_eq!(rt; read_otherwise(rt.alloc(), &slots::TOO_GREAT), None);
+    assert_eq!(rt; read_otherwise(rt.alloc(), &slots::BAD_LISTS), None);
+    assert_eq!(rt; read_otherwise(rt.alloc(), &slots::OTHER_COUNTS), None);
 }

@@ -1,5 +1,5 @@
 //! The leaves of branches, and the leaves that count others.
-use super::{B, BranchText, I, LeafText, ROW, Row, read_otherwise};
+use super::{B, BranchText, I, LeafText, ROW, Row};
 
 /// A leaf of floats, which the leaf of label 1 counts.
 const V: LeafText = LeafText {
@@ -17,7 +17,7 @@ const C: BranchText = BranchText {
     ..B
 };
 
-static ONE_BRANCH: [Row; 11] = [
+pub(super) static ONE_BRANCH: [Row; 11] = [
     Row {
         name: "the most values that a leaf may have",
         branches: &[BranchText {
@@ -183,7 +183,7 @@ static ONE_BRANCH: [Row; 11] = [
     },
 ];
 
-static TWO_BRANCHES: [Row; 5] = [
+pub(super) static TWO_BRANCHES: [Row; 5] = [
     Row {
         name: "a counter in an earlier branch",
         branches: &[B, C],
@@ -241,7 +241,7 @@ static TWO_BRANCHES: [Row; 5] = [
     },
 ];
 
-static MORE_BRANCHES: [Row; 2] = [
+pub(super) static MORE_BRANCHES: [Row; 2] = [
     // It counts where it stands last.
     Row {
         name: "a leaf that stands in two branches",
@@ -277,10 +277,3 @@ static MORE_BRANCHES: [Row; 2] = [
         ..ROW
     },
 ];
-
-#[test]
-fn leaves(rt: HostRuntime) {
-    assert_eq!(rt; read_otherwise(rt.alloc(), &ONE_BRANCH), None);
-    assert_eq!(rt; read_otherwise(rt.alloc(), &TWO_BRANCHES), None);
-    assert_eq!(rt; read_otherwise(rt.alloc(), &MORE_BRANCHES), None);
-}

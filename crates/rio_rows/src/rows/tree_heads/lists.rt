@@ -1,5 +1,5 @@
 //! The lists of branches, leaves and baskets, and members that are lacking.
-use super::{B, BranchText, I, LeafText, ROW, Row, read_otherwise};
+use super::{B, BranchText, I, LeafText, ROW, Row};
 
 /// A branch that lacks a member that is needed.
 const LACKING: Row = Row {
@@ -9,7 +9,7 @@ const LACKING: Row = Row {
 
 // ---- the tree
 
-static TREES: [Row; 9] = [
+pub(super) static TREES: [Row; 9] = [
     ROW,
     Row {
         name: "a list of branches of another version",
@@ -64,7 +64,7 @@ static TREES: [Row; 9] = [
 
 // ---- lists of a branch
 
-static LISTS: [Row; 12] = [
+pub(super) static LISTS: [Row; 12] = [
     Row {
         name: "lists of another version",
         branches: &[BranchText {
@@ -172,7 +172,7 @@ static LISTS: [Row; 12] = [
 
 // ---- members that are lacking
 
-static MEMBERS: [Row; 11] = [
+pub(super) static MEMBERS: [Row; 11] = [
     Row {
         name: "no fName",
         branches: &[BranchText { name: "", ..B }],
@@ -244,7 +244,7 @@ static MEMBERS: [Row; 11] = [
     },
 ];
 
-static LEAF_MEMBERS: [Row; 6] = [
+pub(super) static LEAF_MEMBERS: [Row; 6] = [
     Row {
         name: "a leaf without fName",
         branches: &[BranchText {
@@ -306,15 +306,3 @@ const LEAFLESS: Row = Row {
     said: "b 0 [] LeafClass\n",
     ..ROW
 };
-
-#[test]
-fn lists(rt: HostRuntime) {
-    assert_eq!(rt; read_otherwise(rt.alloc(), &TREES), None);
-    assert_eq!(rt; read_otherwise(rt.alloc(), &LISTS), None);
-}
-
-#[test]
-fn members(rt: HostRuntime) {
-    assert_eq!(rt; read_otherwise(rt.alloc(), &MEMBERS), None);
-    assert_eq!(rt; read_otherwise(rt.alloc(), &LEAF_MEMBERS), None);
-}

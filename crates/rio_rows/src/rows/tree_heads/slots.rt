@@ -1,5 +1,5 @@
 //! Where baskets stand: fWriteBasket, and three lists with a number for each basket.
-use super::{B, BranchText, ROW, Row, read_otherwise};
+use super::{B, BranchText, ROW, Row};
 
 /// Two baskets, of entries 0 and 1, and of entry 2.
 const TWO: BranchText = BranchText {
@@ -17,7 +17,7 @@ const NONE: BranchText = BranchText {
     ..B
 };
 
-static READ: [Row; 6] = [
+pub(super) static READ: [Row; 6] = [
     Row {
         name: "nothing behind the baskets that are used",
         branches: &[TWO],
@@ -84,7 +84,7 @@ const LACKING: Row = Row {
     ..ROW
 };
 
-static TOO_GREAT: [Row; 7] = [
+pub(super) static TOO_GREAT: [Row; 7] = [
     Row {
         name: "a length of 2^31",
         branches: &[BranchText {
@@ -149,7 +149,7 @@ const UNLISTED: Row = Row {
     ..ROW
 };
 
-static BAD_LISTS: [Row; 9] = [
+pub(super) static BAD_LISTS: [Row; 9] = [
     Row {
         name: "a length below 0",
         branches: &[BranchText {
@@ -228,7 +228,7 @@ static BAD_LISTS: [Row; 9] = [
     },
 ];
 
-static OTHER_COUNTS: [Row; 3] = [
+pub(super) static OTHER_COUNTS: [Row; 3] = [
     Row {
         name: "fewer entries than the tree",
         branches: &[BranchText {
@@ -257,11 +257,3 @@ static OTHER_COUNTS: [Row; 3] = [
         ..ROW
     },
 ];
-
-#[test]
-fn slots(rt: HostRuntime) {
-    assert_eq!(rt; read_otherwise(rt.alloc(), &READ), None);
-    assert_eq!(rt; read_otherwise(rt.alloc(), &TOO_GREAT), None);
-    assert_eq!(rt; read_otherwise(rt.alloc(), &BAD_LISTS), None);
-    assert_eq!(rt; read_otherwise(rt.alloc(), &OTHER_COUNTS), None);
-}
