@@ -1,7 +1,7 @@
-//! The place of one record in a chain, also of a record whose length is no multiple of four and below other limits than the one of a
-//! file: no file shows these.
-use rio_chain::{Chain, Segment, Segments};
-use rio_num::NoMemory;
+//! The places of records in a chain, also of a record whose length is no multiple of four and below other limits than the one of a
+//! file, and in a chain that ends 996 bytes below that limit: no file shows these.
+use rio_chain::{Chain, PlanFault, Segment, Segments};
+use rio_num::{Lengths, NoMemory, Places};
 use std::alloc::Global;
 
 // Of three records after the first, of 60, 120 and 60 bytes, the second is deleted.
@@ -60,4 +60,59 @@ fn are_placed(alloc: Global) -> bool {
 #[test]
 fn places_one_record(rt: HostRuntime) {
     assert!(rt; are_placed(rt.alloc()));
+}
+
+fn nearly_full(alloc: Global) -> Result<Chain, NoMemory> {
+    let mut segments = Segments::new(alloc);
+    segments.push(Segment::Record {
+        place: 100,
+        length: 108,
+    })?;
+    segments.push(Segment::Record {
+        place: 208,
+        length: 1_999_998_792,
+    })?;
+    Chain::from_segments(segments)
+}
+
+fn placed(alloc: Global, chain: &Chain) -> Result<Places, PlanFault> {
+    let lengths = Lengths::from_slice(alloc, &[996])?;
+    chain.plan(&lengths, 1_999_999_996)
+}
+
+fn too_long(alloc: Global, chain: &Chain) -> Result<Places, PlanFault> {
+    let lengths = Lengths::from_slice(alloc, &[1000])?;
+    chain.plan(&lengths, 1_999_999_996)
+}
+
+fn fits(alloc: Global, chain: &Chain) -> bool {
+    match placed(alloc, chain) {
+        Ok(places) => places.as_slice() == [1_999_999_000].as_slice(),
+        Err(_) => false,
+    }
+}
+
+fn is_full(alloc: Global, chain: &Chain) -> bool {
+    match too_long(alloc, chain) {
+        Ok(_) => false,
+        Err(fault) => {
+            fault
+                == PlanFault::Full {
+                    end: 1_999_999_000,
+                    wanted: 1000,
+                }
+        }
+    }
+}
+
+fn plans(alloc: Global) -> bool {
+    match nearly_full(alloc) {
+        Ok(chain) => fits(alloc, &chain) && is_full(alloc, &chain),
+        Err(_) => false,
+    }
+}
+
+#[test]
+fn plans_up_to_the_limit(rt: HostRuntime) {
+    assert!(rt; plans(rt.alloc()));
 }

@@ -1,11 +1,11 @@
-//! Scans of a small tree, basket by basket.
+//! The basket that holds an entry, and scans of a small tree, basket by basket.
 ghost use Rattle.std.specs.Prelude.{◌≡◌, IfOk};
 ghost use Rattle.rio_index.specs.Scan.{CanHold, CanScan};
 ghost use Rattle.rio_tree.specs.Index.{IsIndex};
 
 use rio_entry::EntryFault;
 use rio_format::{Classes, Value, Values};
-use rio_index::Scanner;
+use rio_index::{Scanner, basket_of};
 use rio_key::StoredBasket;
 use rio_leaf::{BranchDef, LeafFault, Leaves, Shape, read_leaves};
 use rio_num::{Name, NoMemory};
@@ -304,4 +304,39 @@ static BROKEN_WALK: [Step; 9] = [
 fn rows_of_a_tree(rt: HostRuntime) {
     assert!(rt; is_walked(rt.alloc(), &WALK));
     assert!(rt; is_walked(rt.alloc(), &BROKEN_WALK));
+}
+
+fn three_baskets(alloc: Global) -> Result<Baskets, NoMemory>
+    ensures { IfOk result (λ baskets. IsIndex baskets 9) }
+{
+    Baskets::from_slice(alloc, &[at(0), at(3), at(5)])
+}
+
+fn is_in(branch: &Branch, entry: u64, basket: Option<usize>) -> bool
+    requires { IsIndex branch.now.baskets branch.now.entries }
+{
+    basket_of(branch, entry) == basket
+}
+
+fn are_in_order(branch: &Branch) -> bool
+    requires { IsIndex branch.now.baskets branch.now.entries }
+{
+    is_in(branch, 2, Some(0))
+        && is_in(branch, 3, Some(1))
+        && is_in(branch, 4, Some(1))
+        && is_in(branch, 5, Some(2))
+        && is_in(branch, 8, Some(2))
+        && is_in(branch, 9, None)
+}
+
+fn are_found(alloc: Global) -> bool {
+    match three_baskets(alloc) {
+        Ok(baskets) => are_in_order(&branch(alloc, Leaves::new(alloc), 9, baskets)),
+        Err(_) => false,
+    }
+}
+
+#[test]
+fn entries_are_in_their_baskets(rt: HostRuntime) {
+    assert!(rt; are_found(rt.alloc()));
 }
