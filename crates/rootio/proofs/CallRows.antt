@@ -46,7 +46,7 @@ calls_lead file image m (c ∷ calls) reads are =
     let others = calls_lead c.image image one.0 calls one.1.reads are.1 in
     let closed : ReadsClosedUnlessOpen file m → ReadsClosedUnlessOpen c.image one.0 =
     λ before. one.1.closed (subst (λ (f : List ℕ). ReadsClosedUnlessOpen f m) (sym are.0.file_is) before) in
-    (others.0, others.1, (λ before. others.2.0 (closed before)), (one.0, one.1, others.2.1))
+    (others.0, others.1, (λ before. others.2 (closed before)), (one.0, one.1, others.3))
 
 -- ---- what the headline says of one call
 

@@ -70,7 +70,7 @@ behind_start : (r : ScriptRun) → behind r 0 ≡ r.start
 unfolding state_after
 behind_start r = refl
 
-replies_start : (r : ScriptRun) → replies r 0 ≡ []
+pub replies_start : (r : ScriptRun) → replies r 0 ≡ []
 unfolding said_of
 replies_start r = printed_none r.replies
 
