@@ -1,15 +1,15 @@
 -- A history is that of its log.
-use Rattle.std.proofs.Common.{◌≡◌, ◌∙◌, ℕ, zero, suc, ◌+◌, ◌<◌, Bool, true, false, cond, List, [], ◌∷◌, ◌++◌, length, replicate, drop, Option, Some, None, refl, ap, sym, arith}
+use Rattle.std.proofs.Common.{◌≡◌, ◌∙◌, ℕ, zero, suc, ◌+◌, ◌<◌, ◌≤◌, Bool, true, false, cond, List, [], ◌∷◌, ◌++◌, length, replicate, drop, Option, Some, None, refl, ap, subst, sym, arith}
 use Rattle.std.proofs.lemmas.{Bool.{eqb-true, eqb-false, leb-true, leb-false}, List.{length-replicate}, Option.{same_Some, slice_get_past}}
 use Rattle.std.specs.Option.{option_map}
 use Rattle.std.specs.List.{fold, slice_get, slice_set}
 use Rattle.std.specs.Prelude.{nat_le, ◌==◌}
 use Rattle.rio_queue.specs.Steps.{Effect, Row, add_effect, effect_of, empty_unit, hand_effect, refusal_effect, take_effect, unit_after_hand, unit_limit, unit_of, with_row}
-use Rattle.rio_queue.specs.Histories.{History, effect_in, history_of, history_with, initial_history, queue_of, unit_in}
-use Rattle.rio_queue.specs.Logs.{HistoryIsLogged, IsLogged, Log, LogGrows, Logged, RepliesByLog, hands_in, hands_with, log_of, log_with, open_in, queue_in, reply_in, rows_since, rows_with, taken_reply, unit_handed}
+use Rattle.rio_queue.specs.Histories.{History, effect_in, history_of, history_with, initial_history, queue_of, reply_after, unit_in}
+use Rattle.rio_queue.specs.Logs.{HistoryIsLogged, IsLogged, Log, LogGrows, Logged, RepliesByLog, handed_in, hands_in, hands_with, log_of, log_with, open_in, queue_in, reply_in, rows_since, rows_with, taken_reply, takes_in, unit_handed}
 use Rattle.rio_queue.specs.declared.fillers.OpenUnit.{OpenUnit}
 use Rattle.rio_queue.specs.declared.steps.Step.{Step, TheVariants.{Add, Hand, Take}}
-use Rattle.rio_queue.specs.declared.steps.StepReply.{StepReply, TheVariants.{Added, Handed, Refused}}
+use Rattle.rio_queue.specs.declared.steps.StepReply.{StepReply, TheVariants.{Added, Handed, Taken, Refused}}
 use Rattle.rio_queue.specs.declared.steps.Unit.{Unit as RowUnit}
 
 -- ---- lists

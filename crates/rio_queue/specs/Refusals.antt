@@ -1,4 +1,4 @@
--- Refusals of steps: their numbers, from 22, and their names.
+-- Refusals of steps: their numbers, which go on after those of commands, and their names.
 use Rattle.std.specs.Prelude.{ℕ, List, Option, Some, None, codes, ◌==◌, if◌then◌else◌}
 use Rattle.rio_queue.specs.declared.refusal.StepRefusal.{StepRefusal, TheVariants.{NoSuchFiller, QueueFull, QueueEmpty, EmptyUnit, UnitTooLong}}
 

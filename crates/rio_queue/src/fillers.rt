@@ -1,5 +1,5 @@
 //! The open units of fillers, and the queue.
-ghost use Rattle.std.specs.Prelude.{◌≡◌, ◌<◌, ◌^◌, length, slice_index_or, slice_set, Some, None, replicate, IfOk, OnOk, OnErr};
+ghost use Rattle.std.specs.Prelude.{◌≡◌, ◌<◌, ◌^◌, length, slice_get, slice_index_or, slice_set, Some, None, replicate, IfOk, OnOk, OnErr};
 ghost use Rattle.rio_queue.specs.Refusals.{refusal_number};
 ghost use Rattle.rio_queue.specs.Steps.{empty_unit, unit_after_hand, unit_of, with_row};
 

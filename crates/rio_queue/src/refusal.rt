@@ -3,7 +3,7 @@ ghost use Rattle.std.specs.Prelude.{◌≡◌};
 ghost use Rattle.rio_queue.specs.Refusals.{refusal_name, refusal_number, refusal_of_number};
 
 /// Why a step is refused. A refused step changes nothing. Where several hold, the first of them in this order is reported.
-/// They are numbered from 22; the numbers below are those of commands.
+/// Their numbers go on after those of commands.
 #[derive(Clone, Copy, Debug)]
 pub enum StepRefusal {
     /// There is no filler of this number: the fillers are numbered from 0.
