@@ -1,0 +1,4 @@
+pub mod Histories
+pub mod Logs
+pub mod Refusals
+pub mod Steps
